@@ -2,13 +2,13 @@
 #![tactic(auto)]
 
 use automizer_top::run;
-use command_words::{given_words, grow_stack};
 use outer_io::{FileShelf, StdSink};
 use race_workers::NoGate;
 use std::alloc::AllocError;
 use std::process::ExitCode;
 use std::sync::Wait;
 use std::thread::Threads;
+use text_reports::command_words::{given_words, grow_stack};
 
 /// The status where memory ran out.
 const NO_MEMORY: u8 = 6;

@@ -12,13 +12,13 @@ use Rattle.letter_acts.specs.Acts.{Alphabet}
 use Rattle.letter_acts.specs.Feasible.{IsFeasible}
 use Rattle.letter_acts.specs.Invariant.{alphabet_of}
 use Rattle.typed_tree.specs.TypedTree.{TypedProgram}
-use Rattle.typing_rules.specs.ValidProgram.{is_valid}
+use Rattle.typed_tree.specs.TypingRules.ValidProgram.{is_valid}
 use Rattle.boogie_run.specs.Runs.{Fails, IsSafe}
 use Rattle.lowered_graph.specs.Lowered.{lowered}
 use Rattle.lowered_graph.specs.Laws.{LoweringIsFaithful}
 use Rattle.trace_replay.specs.Replays.{Replays}
 use Rattle.proof_form.specs.Annotations.{Content, safe_text}
-use Rattle.coarse_lines.specs.CoarseLetters.{coarse_letters}
+use Rattle.proof_names.specs.CoarseLines.CoarseLetters.{coarse_letters}
 use Rattle.race_core.specs.declared.ends.End.{End}
 use Rattle.race_core.specs.declared.ends.End.TheVariants as ends
 use Rattle.race_core.specs.declared.events.Entry.{Entry}

@@ -19,8 +19,8 @@ use Rattle.race_rounds.specs.Rounds.{automaton_in, IsRaceOf}
 use Rattle.race_verdicts.specs.declared.verdicts.Verdict.{Verdict}
 use Rattle.race_verdicts.specs.declared.verdicts.Verdict.TheVariants.{Safe, Unsafe, Unknown}
 use Rattle.race_verdicts.specs.Verdicts.{IsVerdict}
-use Rattle.generated_program.specs.Generated.{generated}
-use Rattle.generated_program.specs.Laws.{IsTyped}
+use Rattle.automizer_top.specs.GeneratedProgram.Generated.{generated}
+use Rattle.automizer_top.specs.GeneratedProgram.Laws.{IsTyped}
 use Rattle.automizer_top.specs.Verdicts.{verdict_status}
 use Rattle.automizer_top.specs.Summary.{summary_text}
 use Rattle.automizer_top.specs.declared.answer.Answer as code
@@ -30,8 +30,8 @@ use Rattle.automizer_top.specs.declared.words.Mode.TheVariants as modes
 use Rattle.automizer_top.specs.declared.words.Options as read
 use Rattle.automizer_top.specs.CommandLine.{Check, Replay, Print, Verify, Big, Lasso, Ranked, Settings}
 use Rattle.text_reports.specs.Answers.{IsGraphOf, HasNoErrorWord}
-use Rattle.automizer_top.specs.Answers.{answered, Asks, VerdictProves, CheckedIsSafe, VerifiedIsSafe, BuiltIsSafe}
-use Rattle.automizer_top.specs.Asked.{settings}
+use Rattle.automizer_top.specs.Ties.Answers.{answered, Asks, VerdictProves, CheckedIsSafe, VerifiedIsSafe, BuiltIsSafe}
+use Rattle.automizer_top.specs.Ties.Asked.{settings}
 use Rattle.text_reports.specs.ReportTexts.{Answer}
 use Rattle.automizer_top.specs.ReportTexts.{verdict_answer, summary_answer}
 use Rattle.automizer_top.specs.Report.{Ask, Reports, generating, ReportsBig, ReportsVerdict, RefusesLowering}

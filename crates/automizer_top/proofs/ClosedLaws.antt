@@ -4,7 +4,7 @@ use Rattle.race_verdicts.specs.declared.verdicts.Verdict.TheVariants as verdicts
 use Rattle.text_reports.proofs.TextLaws.{below_four}
 use Rattle.automizer_top.specs.declared.answer.Answer as code
 use Rattle.automizer_top.specs.declared.answer.Answer.TheVariants.{Usage, OnText, Free, Ranking, NoRanking, NoNumber, Decided, PartsDecided, PartDecided}
-use Rattle.automizer_top.specs.Answers.{answered}
+use Rattle.automizer_top.specs.Ties.Answers.{answered}
 
 below_five : (a : code.Answer) → (answered a).status < 5
 below_five Usage = omega arith

@@ -16,8 +16,8 @@ use Rattle.itp_automaton.specs.Certified.{Certificate, IsFeasibleFor}
 use Rattle.race_rounds.specs.declared.limits.Limits.{Limits}
 use Rattle.race_rounds.specs.Ends.{EndMeets, no_word, one_word}
 use Rattle.race_rounds.specs.Rounds.{automaton_in}
-use Rattle.race_completeness.specs.Words.{HasWordsAmong}
-use Rattle.race_completeness.specs.Laws.{RoundsAreEnough}
+use Rattle.race_verdicts.specs.RaceCompleteness.Words.{HasWordsAmong}
+use Rattle.race_verdicts.specs.RaceCompleteness.Laws.{RoundsAreEnough}
 use Rattle.race_verdicts.specs.declared.verdicts.Verdict.{Verdict}
 use Rattle.race_verdicts.specs.declared.verdicts.Verdict.TheVariants.{Safe, Unsafe, Unknown}
 use Rattle.race_verdicts.specs.Verdicts.{IsVerdict}

@@ -9,8 +9,8 @@ use Rattle.typed_tree.specs.TypedTree.{TypedProgram}
 use Rattle.lowered_graph.specs.Items.{first_fault}
 use Rattle.lowered_graph.specs.Lowered.{lowered}
 use Rattle.proof_form.specs.Annotations.{Content, is_annotation, safe_text}
-use Rattle.coarse_lines.specs.CoarseLetters.{coarse_letters}
-use Rattle.coarse_lines.proofs.ToldLaws.{letters_are_short}
+use Rattle.proof_names.specs.CoarseLines.CoarseLetters.{coarse_letters}
+use Rattle.proof_names.proofs.CoarseLines.ToldLaws.{letters_are_short}
 use Rattle.proof_check.specs.Proves.{Proves}
 use Rattle.trace_replay.specs.declared.failure.Failure.{Failure}
 use Rattle.trace_replay.specs.FailureText.{PlainFailure, plain}

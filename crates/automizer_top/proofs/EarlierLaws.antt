@@ -18,11 +18,11 @@ use Rattle.automizer_top.specs.declared.answer.Answer as code
 use Rattle.text_reports.specs.declared.reading.Halt.{Halt}
 use Rattle.text_reports.specs.ReportTexts.{Answer}
 use Rattle.text_reports.specs.Answers.{IsGraphOf}
-use Rattle.automizer_top.specs.Answers.{answered}
+use Rattle.automizer_top.specs.Ties.Answers.{answered}
 use Rattle.automizer_top.specs.Report.{second_limit, RefusesTyped, IsTypedText, refused, of_typed, RefusesLowering, unlowered, of_lowered, ReportsSecond, ReportsVerdict, ReportsVerify, ReportsVerifyBy}
 use Rattle.automizer_top.specs.Parts.{ReportsVerifyParts}
 use Rattle.automizer_top.specs.Earlier.{IsFirstEntry, ReportsReuse, no_earlier, of_earlier, ReportsVerifyWith}
-use Rattle.automizer_top.specs.EarlierViews.{IsLeftOf, RefusesText, IsGivenOver}
+use Rattle.automizer_top.specs.Ties.EarlierViews.{IsLeftOf, RefusesText, IsGivenOver}
 
 abbrev Texts : Type 0
 Texts = List (List ℕ × List ℕ)

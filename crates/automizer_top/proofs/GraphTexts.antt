@@ -6,7 +6,7 @@ use Rattle.letter_acts.specs.Kept.{Keeps}
 use Rattle.lowered_graph.specs.Lowered.{lowered}
 use Rattle.text_reports.specs.Answers.{IsGraphOfText}
 use Rattle.text_reports.proofs.TypedTexts.{one_typed}
-use Rattle.automizer_top.specs.Answers.{TextIsGraph}
+use Rattle.automizer_top.specs.Ties.Answers.{TextIsGraph}
 
 kept_graph : (g : Graph) → Keeps g → IsGraph g
 unfolding Keeps

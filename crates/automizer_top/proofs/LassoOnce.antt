@@ -5,10 +5,10 @@ use Rattle.std.proofs.lemmas.Bool.{cases_order}
 use Rattle.std.proofs.lemmas.Option.{same_Some}
 use Rattle.letter_acts.specs.Invariant.{Graph}
 use Rattle.proof_check.specs.declared.rejects.RejectCause.TheVariants as rejects
-use Rattle.lasso_ranks.specs.declared.lassos.LassoFault.{LassoFault}
-use Rattle.lasso_ranks.specs.declared.lassos.LassoFault.TheVariants.{Syntax, BadName, BadStep, Memory}
-use Rattle.lasso_ranks.specs.Lassos.{PlainLasso, IsLassoOf, IsBadNameAt, IsBadStepAt, IsNoLassoBy}
-use Rattle.lasso_ranks.specs.Ranks.{PlainRanking, ranked_by, excluded_by, Ranks, IsFirstFailing}
+use Rattle.rank_lasso.specs.declared.lasso_ranks.lassos.LassoFault.{LassoFault}
+use Rattle.rank_lasso.specs.declared.lasso_ranks.lassos.LassoFault.TheVariants.{Syntax, BadName, BadStep, Memory}
+use Rattle.rank_lasso.specs.LassoRanks.Lassos.{PlainLasso, IsLassoOf, IsBadNameAt, IsBadStepAt, IsNoLassoBy}
+use Rattle.rank_lasso.specs.LassoRanks.Ranks.{PlainRanking, ranked_by, excluded_by, Ranks, IsFirstFailing}
 use Rattle.rank_lasso.specs.RankingText.{RankingForm}
 use Rattle.rank_lasso.specs.Naming.{bad_line}
 use Rattle.rank_lasso.specs.Faults.{AreOfLasso, AreOfRanking, IsFirstFaultAs, IsLassoFault, IsReadAs, IsBadlyNamed, IsRankingFault}

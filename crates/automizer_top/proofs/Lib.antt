@@ -30,3 +30,4 @@ pub mod PartTruth
 pub mod ClosedLaws
 pub mod CompleteLaws
 pub mod AnsweringLaws
+pub mod GeneratedProgram

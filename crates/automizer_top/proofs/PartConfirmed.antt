@@ -8,7 +8,7 @@ use Rattle.typed_tree.specs.TypedTree.{TypedProgram}
 use Rattle.modular_cut.specs.Parts.{PlainPart, parts_of}
 use Rattle.modular_cut.specs.FreeConditions.{free_spans}
 use Rattle.lowered_graph.specs.Lowered.{lowered}
-use Rattle.coarse_lines.specs.CoarseLetters.{coarse_letters}
+use Rattle.proof_names.specs.CoarseLines.CoarseLetters.{coarse_letters}
 use Rattle.race_rounds.specs.declared.limits.Limits.{Limits}
 use Rattle.automizer_top.specs.CommandLine.{Check, Replay, Verify, Settings}
 use Rattle.automizer_top.specs.PartTexts.{modular_line, part_line, front_lines, front_text, rest_text}

@@ -23,10 +23,10 @@ use Rattle.automizer_top.specs.declared.parts.Left.{Left}
 use Rattle.automizer_top.specs.PartTexts.{part_line, text_behind, front_text, rest_text}
 use Rattle.text_reports.specs.ReportTexts.{Answer}
 use Rattle.text_reports.specs.Answers.{IsGraphOf, TextIsSafe}
-use Rattle.automizer_top.specs.Answers.{answered}
+use Rattle.automizer_top.specs.Ties.Answers.{answered}
 use Rattle.automizer_top.specs.Report.{second_limit, refused, of_typed, IsTypedText, RefusesTyped, RefusesLowering, ReportsSecond, ReportsVerdict}
 use Rattle.automizer_top.specs.Parts.{ReportsCut, free, of_parts, first_part_fault, ReportsLoweredParts, part_unlowered, parts_lowered, AreSafe, part_texts, races_of, ReportsParts, ReportsVerifyParts, ProvesPart, RejectsPart, no_part_annotation, part_rejected, ChecksPart, no_part_line, wrong_part, right_part, ChecksParts, ReportsPartProofs, ReportsCheckParts, part_in, ReportsPartFailure, ReportsReplayParts}
-use Rattle.automizer_top.specs.PartViews.{AreParts, RefusesFree, AreGraphsOf, HaveNoErrorWord, RefusesUnlowered, RefusesParts, IsLoweredText, JudgesPart, ChecksOn}
+use Rattle.automizer_top.specs.Ties.PartViews.{AreParts, RefusesFree, AreGraphsOf, HaveNoErrorWord, RefusesUnlowered, RefusesParts, IsLoweredText, JudgesPart, ChecksOn}
 use Rattle.text_reports.proofs.SafetyLaws.{graph_is_safe}
 use Rattle.text_reports.proofs.TypedTexts.{one_typed}
 use Rattle.text_reports.proofs.RefusalLaws.{typed_is_three}

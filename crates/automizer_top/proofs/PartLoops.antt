@@ -19,7 +19,7 @@ use Rattle.text_reports.specs.ReportTexts.{Answer, accepted_answer, syntax_answe
 use Rattle.automizer_top.specs.Report.{RefusesLowering, ReportsVerdict}
 use Rattle.text_reports.specs.Answers.{IsGraphOf, HasNoErrorWord}
 use Rattle.automizer_top.specs.Parts.{AreSafe, part_texts, races_of, ReportsParts, all_safe, one_is_not, ChecksEnd, ChecksParts, ReportsPartProofs, of_part_proofs, part_in}
-use Rattle.automizer_top.specs.PartViews.{AreGraphsOf, HaveNoErrorWord, RefusesUnlowered, JudgesPart, ChecksOn, FindsPart}
+use Rattle.automizer_top.specs.Ties.PartViews.{AreGraphsOf, HaveNoErrorWord, RefusesUnlowered, JudgesPart, ChecksOn, FindsPart}
 use Rattle.automizer_top.proofs.PartFunctions.{graphs_more, unlowered_at, graph_at, graphs_as_many, safe_more, texts_more, races_more, judges_any, goes_on, drop_at, take_at, split_at, all_more, get_map}
 
 -- ---- an element of a list

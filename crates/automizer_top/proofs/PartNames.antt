@@ -9,9 +9,9 @@ use Rattle.std.proofs.lemmas.Slice.Eq.{bytes_eq-Decides}
 use Rattle.boogie_tree.specs.Names.{is_digit, is_name_byte, is_name, are_digits, is_name_or_number, is_made_mark, is_made, is_spelled}
 use Rattle.boogie_tree.specs.Tree.{Declaration}
 use Rattle.typed_tree.specs.TypedTree.{TypedBlock, TypedProcedure, TypedProgram}
-use Rattle.typing_rules.specs.Rules.{all_differ, keeps_typing}
-use Rattle.typing_rules.specs.Shape.{are_names, is_procedure_shaped, has_shape}
-use Rattle.typing_rules.specs.ValidProgram.{has_entry, is_typed}
+use Rattle.typed_tree.specs.TypingRules.Rules.{all_differ, keeps_typing}
+use Rattle.typed_tree.specs.TypingRules.Shape.{are_names, is_procedure_shaped, has_shape}
+use Rattle.typed_tree.specs.TypingRules.ValidProgram.{has_entry, is_typed}
 use Rattle.boogie_types.specs.Resolved.{are_sets, are_implementations, named_program, entry_number, if_typed, resolved_program}
 use Rattle.boogie_types.proofs.ShapeLists.{all_weaker}
 use Rattle.modular_cut.specs.Parts.{PlainPart, part_if, parts_from_number, parts_of}

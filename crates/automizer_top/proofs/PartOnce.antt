@@ -17,8 +17,8 @@ use Rattle.proof_form.specs.Annotations.{Content}
 use Rattle.proof_form.specs.Standing.{end_line}
 use Rattle.proof_form.proofs.StandingLaws.{lines_joined}
 use Rattle.proof_names.specs.Items.{first_triple}
-use Rattle.coarse_lines.specs.CoarseLetters.{coarse_letters, first_wrong, first_missing}
-use Rattle.coarse_lines.proofs.ToldLaws.{letters_compared}
+use Rattle.proof_names.specs.CoarseLines.CoarseLetters.{coarse_letters, first_wrong, first_missing}
+use Rattle.proof_names.proofs.CoarseLines.ToldLaws.{letters_compared}
 use Rattle.proof_check.specs.declared.rejects.RejectCause.{RejectCause}
 use Rattle.proof_check.specs.Checks.{turn, IsFirst}
 use Rattle.proof_check.specs.Proves.{Proves}

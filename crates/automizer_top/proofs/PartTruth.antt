@@ -3,7 +3,7 @@ use Rattle.std.proofs.Common.{◌≡◌, ℕ, suc, ◌<◌, List, [], ◌∷◌,
 use Rattle.std.specs.Prelude.{IsTrue, Contains}
 use Rattle.std.specs.List.{AllByRecursion}
 use Rattle.typed_tree.specs.TypedTree.{TypedProgram}
-use Rattle.typing_rules.specs.ValidProgram.{is_valid}
+use Rattle.typed_tree.specs.TypingRules.ValidProgram.{is_valid}
 use Rattle.boogie_run.specs.Runs.{IsSafe}
 use Rattle.lowered_graph.specs.Laws.{LoweringIsFaithful}
 use Rattle.modular_cut.specs.Parts.{PlainPart, parts_of}

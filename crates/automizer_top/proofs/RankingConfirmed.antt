@@ -3,7 +3,7 @@ use Rattle.std.proofs.Common.{◌≡◌, ◌∙◌, ℕ, ◌≤◌, List, length
 use Rattle.outer_io.specs.Texts.{text_named}
 use Rattle.typed_tree.specs.TypedTree.{TypedProgram}
 use Rattle.lowered_graph.specs.Lowered.{lowered}
-use Rattle.lasso_ranks.specs.Lassos.{PlainLasso, IsLassoOf}
+use Rattle.rank_lasso.specs.LassoRanks.Lassos.{PlainLasso, IsLassoOf}
 use Rattle.rank_lasso.specs.Faults.{IsReadAs}
 use Rattle.automizer_top.specs.CommandLine.{Lasso, Ranked, Settings}
 use Rattle.text_reports.specs.ReportTexts.{Answer, accepted_answer}

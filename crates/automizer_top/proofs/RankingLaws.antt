@@ -7,11 +7,11 @@ use Rattle.typed_tree.specs.TypedTree.{TypedProgram}
 use Rattle.letter_acts.specs.Invariant.{Graph, IsGraph}
 use Rattle.lowered_graph.specs.Items.{first_fault}
 use Rattle.lowered_graph.specs.Lowered.{lowered}
-use Rattle.lasso_ranks.specs.declared.lassos.LassoFault.{LassoFault}
-use Rattle.lasso_ranks.specs.declared.lassos.LassoFault.TheVariants.{Syntax, BadName, BadStep, Memory}
-use Rattle.lasso_ranks.specs.Lassos.{PlainLasso, IsLassoOf}
-use Rattle.lasso_ranks.specs.Ranks.{PlainRanking, IsRankingOver, Ranks, HasFewTurns, LassoEnds}
-use Rattle.lasso_ranks.proofs.RankLaws.{ranks_say_few, few_turns_say_end}
+use Rattle.rank_lasso.specs.declared.lasso_ranks.lassos.LassoFault.{LassoFault}
+use Rattle.rank_lasso.specs.declared.lasso_ranks.lassos.LassoFault.TheVariants.{Syntax, BadName, BadStep, Memory}
+use Rattle.rank_lasso.specs.LassoRanks.Lassos.{PlainLasso, IsLassoOf}
+use Rattle.rank_lasso.specs.LassoRanks.Ranks.{PlainRanking, IsRankingOver, Ranks, HasFewTurns, LassoEnds}
+use Rattle.rank_lasso.proofs.LassoRanks.RankLaws.{ranks_say_few, few_turns_say_end}
 use Rattle.rank_lasso.specs.Faults.{IsReadAs}
 use Rattle.rank_lasso.proofs.OneText.{read_rankings_are_over}
 use Rattle.text_reports.specs.declared.answers.TextAnswer.{TextAnswer}
@@ -22,7 +22,7 @@ use Rattle.automizer_top.specs.ReportTexts.{fault_answer}
 use Rattle.automizer_top.specs.Report.{Ask, IsTypedText, refused, of_typed, unlowered, of_lowered, second_too_long, of_second}
 use Rattle.automizer_top.specs.Rankings.{IsLassoText, ReportsSearch, found_ranking, found_none, past_number, ReportsLassoText, no_lasso_text, no_lasso, of_lasso, ReportsLasso, ReportsRankingText, no_ranking_text, ranks_no_lasso, ranking_holds, ranking_fails, ReportsRanked}
 use Rattle.automizer_top.specs.RankingClaims.{AskedLassoEnds, RankedLassoEnds}
-use Rattle.automizer_top.specs.Answers.{RankedIsGraph}
+use Rattle.automizer_top.specs.Ties.Answers.{RankedIsGraph}
 use Rattle.text_reports.proofs.RefusalLaws.{typed_is_not_zero, lowering_is_not_zero, too_long_is_not_zero, second_letter, typed_begins, lowering_begins, too_long_begins}
 
 abbrev Texts : Type 0

@@ -12,8 +12,8 @@ use Rattle.automizer_top.specs.declared.words.Mode.{Mode}
 use Rattle.automizer_top.specs.declared.words.Mode.TheVariants as modes
 use Rattle.automizer_top.specs.declared.words.Options.{Options}
 use Rattle.automizer_top.specs.CommandLine.{Task, Check, Replay, Print, Verify, Big, Lasso, Ranked, Settings}
-use Rattle.automizer_top.specs.Asked.{settings, program_name}
-use Rattle.automizer_top.specs.Answers.{answered, Asks, TextIsGraph, RankedIsGraph}
+use Rattle.automizer_top.specs.Ties.Asked.{settings, program_name}
+use Rattle.automizer_top.specs.Ties.Answers.{answered, Asks, TextIsGraph, RankedIsGraph}
 use Rattle.automizer_top.specs.Report.{program_limit, Ask, IsTypedText, Reports, seeking, ranking}
 use Rattle.automizer_top.specs.Rankings.{ReportsLasso, ReportsRanked}
 use Rattle.automizer_top.proofs.RequestLaws.{kind_of, only_one}

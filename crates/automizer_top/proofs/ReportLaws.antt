@@ -13,9 +13,9 @@ use Rattle.automizer_top.specs.declared.words.Mode.{Mode}
 use Rattle.automizer_top.specs.declared.words.Mode.TheVariants as modes
 use Rattle.automizer_top.specs.declared.words.Options.{Options}
 use Rattle.automizer_top.specs.CommandLine.{Task, Check, Replay, Print, Verify, Lasso, Ranked, Settings}
-use Rattle.automizer_top.specs.Asked.{of_texts, settings, program_name}
+use Rattle.automizer_top.specs.Ties.Asked.{of_texts, settings, program_name}
 use Rattle.text_reports.specs.Answers.{TextIsSafe}
-use Rattle.automizer_top.specs.Answers.{answered, Asks, CheckedIsSafe, VerifiedIsSafe, BuiltIsSafe, RankedIsGraph}
+use Rattle.automizer_top.specs.Ties.Answers.{answered, Asks, CheckedIsSafe, VerifiedIsSafe, BuiltIsSafe, RankedIsGraph}
 use Rattle.text_reports.specs.ReportTexts.{Answer, too_long_answer, accepted_answer}
 use Rattle.automizer_top.specs.Report.{program_limit, Ask, too_long, ReportsPrint, refused_print, printed, RefusesTyped, refused_text, IsTypedText, refused, of_typed, unlowered, of_lowered, second_too_long, of_second, ReportsCheck, ReportsFailure, no_failure, replayed, stopped, ReportsReplay, ReportsVerify, ReportsCheckBy, ReportsReplayBy, ReportsVerifyBy, Reports, usage, printing, checking, replaying, verifying, seeking, ranking, generating}
 use Rattle.automizer_top.specs.Earlier.{ReportsReuse, no_earlier, of_earlier, ReportsVerifyWith}

@@ -5,7 +5,7 @@ use Rattle.outer_io.specs.Lines.{lines_of}
 use Rattle.outer_io.specs.Texts.{text_named}
 use Rattle.boogie_tree.specs.Tree.{Declaration}
 use Rattle.boogie_tree.specs.Printing.{program_text}
-use Rattle.boogie_parse.proofs.WholeText.{one_program}
+use Rattle.boogie_parse.proofs.Rules.WholeText.{one_program}
 use Rattle.typed_tree.specs.TypedTree.{TypedProgram}
 use Rattle.letter_acts.specs.Invariant.{Graph}
 use Rattle.lowered_graph.specs.Items.{first_fault}
@@ -20,7 +20,7 @@ use Rattle.automizer_top.specs.Parts.{ReportsCut, ReportsLoweredParts, ReportsPa
 use Rattle.automizer_top.specs.PartClaims.{AreVerdictsOn}
 use Rattle.automizer_top.specs.ReportClaims.{IsVerdictOn}
 use Rattle.race_rounds.specs.declared.limits.Limits.{Limits}
-use Rattle.lasso_ranks.specs.Lassos.{PlainLasso}
+use Rattle.rank_lasso.specs.LassoRanks.Lassos.{PlainLasso}
 use Rattle.automizer_top.specs.Rankings.{ReportsLassoText, ReportsLasso, ReportsRankingText, ReportsRanked}
 use Rattle.automizer_top.specs.RankingClaims.{AsksForLasso, IsFoundOn}
 use Rattle.automizer_top.specs.CommandLine.{Task, Check, Replay, Print, Verify, Big, Lasso, Ranked, Settings, Request, requested}

@@ -8,7 +8,7 @@ use Rattle.std.proofs.lemmas.Bool.{and_parts, leb-true}
 use Rattle.std.proofs.lemmas.Option.{same_Some, none-some, cond_some}
 use Rattle.clap.specs.Kinds.{Kinds}
 use Rattle.clap.specs.Walk.{Row, first_of}
-use Rattle.command_words.specs.Rules.{is_given}
+use Rattle.text_reports.specs.CommandWords.Rules.{is_given}
 use Rattle.automizer_top.specs.CommandLine.{Task, Check, Replay, Print, Verify, Big, Lasso, Ranked, Settings, Request, is_number_in, number_in_bounds, go_together, task_of, settings_of, request_of, request_by, faults, values, requested}
 use Rattle.automizer_top.specs.Report.{Ask}
 

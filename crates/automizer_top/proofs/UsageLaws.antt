@@ -15,8 +15,8 @@ use Rattle.automizer_top.specs.declared.words.Task.{Task}
 use Rattle.automizer_top.specs.declared.words.Task.TheVariants as tasks
 use Rattle.automizer_top.specs.declared.words.Request as read
 use Rattle.automizer_top.specs.CommandLine.{Request, Big, requested}
-use Rattle.automizer_top.specs.Asked.{asked, task, settings}
-use Rattle.automizer_top.specs.Answers.{answered, Asks}
+use Rattle.automizer_top.specs.Ties.Asked.{asked, task, settings}
+use Rattle.automizer_top.specs.Ties.Answers.{answered, Asks}
 use Rattle.automizer_top.specs.Verdicts.{verdict_status}
 use Rattle.text_reports.specs.ReportTexts.{Answer}
 use Rattle.automizer_top.specs.Report.{Ask, RefusesTyped, refused, of_typed, RefusesLowering, unlowered, of_lowered, ReportsVerify, ReportsBig}

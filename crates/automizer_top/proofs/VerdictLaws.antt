@@ -23,8 +23,8 @@ use Rattle.race_verdicts.specs.Texts.{verdict_text, ChoicesFit}
 use Rattle.automizer_top.specs.Verdicts.{verdict_status}
 use Rattle.automizer_top.specs.Report.{second_limit, IsTypedText, ReportsVerdict, ReportsVerify, of_typed, of_lowered}
 use Rattle.text_reports.specs.Answers.{IsGraphOf, HasNoErrorWord, TextIsSafe}
-use Rattle.automizer_top.specs.Answers.{answered}
-use Rattle.automizer_top.specs.EarlierViews.{IsGivenOver}
+use Rattle.automizer_top.specs.Ties.Answers.{answered}
+use Rattle.automizer_top.specs.Ties.EarlierViews.{IsGivenOver}
 use Rattle.automizer_top.specs.declared.answer.Answer as code
 use Rattle.text_reports.proofs.TextLaws.{text_is_safe}
 

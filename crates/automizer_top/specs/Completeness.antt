@@ -5,7 +5,7 @@ use Rattle.nwa_base.specs.declared.letters.Letter.{Letter}
 use Rattle.nwa_base.specs.Acceptance.{Accepts}
 use Rattle.typed_tree.specs.TypedTree.{TypedProgram}
 use Rattle.lowered_graph.specs.Lowered.{lowered}
-use Rattle.difference_rows.specs.Differences.{IsDifference}
+use Rattle.int_decide.specs.DifferenceRows.Differences.{IsDifference}
 use Rattle.path_rows.specs.Paths.{path_of}
 use Rattle.race_core.specs.declared.ends.Cause.{Cause}
 use Rattle.race_verdicts.specs.Texts.{unknown_text}

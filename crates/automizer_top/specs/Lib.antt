@@ -1,5 +1,4 @@
 pub mod CommandLine
-pub mod Asked
 pub mod Verdicts
 pub mod Summary
 pub mod ReportTexts
@@ -12,7 +11,6 @@ pub mod Report
 pub mod ReportClaims
 pub mod PartClaims
 pub mod RankingClaims
-pub mod Answers
-pub mod PartViews
-pub mod EarlierViews
 pub mod Completeness
+pub mod GeneratedProgram
+pub mod Ties

@@ -12,7 +12,7 @@ use Rattle.lowered_graph.specs.Items.{ItemFault, first_fault}
 use Rattle.lowered_graph.specs.Lowered.{lowered}
 use Rattle.proof_form.specs.Annotations.{Content}
 use Rattle.proof_form.specs.Standing.{FirstWrongOfText}
-use Rattle.coarse_lines.specs.CoarseLetters.{coarse_letters}
+use Rattle.proof_names.specs.CoarseLines.CoarseLetters.{coarse_letters}
 use Rattle.proof_check.specs.declared.rejects.RejectCause.{RejectCause}
 use Rattle.proof_check.specs.Proves.{Proves}
 use Rattle.trace_replay.specs.FailureText.{PlainFailure}

@@ -4,8 +4,8 @@ use Rattle.outer_io.specs.Texts.{text_named}
 use Rattle.typed_tree.specs.TypedTree.{TypedProgram}
 use Rattle.lowered_graph.specs.Items.{first_fault}
 use Rattle.lowered_graph.specs.Lowered.{lowered}
-use Rattle.lasso_ranks.specs.Lassos.{PlainLasso, IsLassoOf}
-use Rattle.lasso_ranks.specs.Ranks.{PlainRanking, HasFewTurns, LassoEnds}
+use Rattle.rank_lasso.specs.LassoRanks.Lassos.{PlainLasso, IsLassoOf}
+use Rattle.rank_lasso.specs.LassoRanks.Ranks.{PlainRanking, HasFewTurns, LassoEnds}
 use Rattle.rank_lasso.specs.Faults.{IsReadAs}
 use Rattle.automizer_top.specs.CommandLine.{Lasso, Ranked, Settings}
 use Rattle.text_reports.specs.ReportTexts.{Answer}

@@ -2,11 +2,11 @@
 -- ranking is found, or the refutations of the one that is given are checked.
 use Rattle.std.specs.Prelude.{◌≡◌, ◌≢◌, ℕ, ◌≤◌, List, length, Option}
 use Rattle.letter_acts.specs.Invariant.{Graph}
-use Rattle.lasso_ranks.specs.declared.lassos.LassoFault.{LassoFault}
-use Rattle.lasso_ranks.specs.declared.lassos.LassoFault.TheVariants.{Memory}
-use Rattle.lasso_ranks.specs.Lassos.{PlainLasso, IsLassoOf, IsNoLassoBy}
-use Rattle.lasso_ranks.specs.Ranks.{PlainRanking, Ranks, IsFirstFailing, IsRankingOver}
-use Rattle.lasso_ranks.specs.Outcomes.{DecideExcludes, RankFits, HasNoRank, IsRank}
+use Rattle.rank_lasso.specs.declared.lasso_ranks.lassos.LassoFault.{LassoFault}
+use Rattle.rank_lasso.specs.declared.lasso_ranks.lassos.LassoFault.TheVariants.{Memory}
+use Rattle.rank_lasso.specs.LassoRanks.Lassos.{PlainLasso, IsLassoOf, IsNoLassoBy}
+use Rattle.rank_lasso.specs.LassoRanks.Ranks.{PlainRanking, Ranks, IsFirstFailing, IsRankingOver}
+use Rattle.rank_lasso.specs.LassoRanks.Outcomes.{DecideExcludes, RankFits, HasNoRank, IsRank}
 use Rattle.rank_lasso.specs.LassoText.{IsWritable, lasso_text}
 use Rattle.rank_lasso.specs.Faults.{IsLassoFault, IsReadAs, IsRankingFault}
 use Rattle.proof_check.specs.declared.rejects.RejectCause.TheVariants as rejects

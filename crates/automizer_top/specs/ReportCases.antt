@@ -9,7 +9,7 @@ use Rattle.itp_automaton.specs.Certified.{Certificate}
 use Rattle.race_rounds.specs.declared.limits.Limits.{Limits}
 use Rattle.race_verdicts.specs.declared.verdicts.Verdict.{Verdict}
 use Rattle.race_verdicts.specs.Verdicts.{IsVerdict}
-use Rattle.generated_program.specs.Generated.{generated}
+use Rattle.automizer_top.specs.GeneratedProgram.Generated.{generated}
 use Rattle.automizer_top.specs.CommandLine.{Task, Settings, requested}
 use Rattle.automizer_top.specs.Verdicts.{IsClosedRace}
 use Rattle.text_reports.specs.ReportTexts.{Answer}

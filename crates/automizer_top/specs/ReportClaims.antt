@@ -3,7 +3,7 @@ use Rattle.std.specs.Prelude.{◌≡◌, ◌⊎◌, ℕ, List, ◌++◌, Option,
 use Rattle.outer_io.specs.Lines.{lines_of}
 use Rattle.outer_io.specs.Texts.{text_named, GainsFront}
 use Rattle.boogie_tree.specs.Tree.{Declaration}
-use Rattle.boogie_parse.specs.GrammarLimits.{IsProgram}
+use Rattle.boogie_parse.specs.Rules.GrammarLimits.{IsProgram}
 use Rattle.typed_tree.specs.TypedTree.{TypedProgram}
 use Rattle.boogie_types.specs.Resolved.{resolved_program}
 use Rattle.boogie_run.specs.Runs.{Fails, IsSafe}
@@ -14,7 +14,7 @@ use Rattle.trace_replay.specs.Replays.{IsReplayed}
 use Rattle.race_core.specs.declared.events.Entry.{Entry}
 use Rattle.race_core.specs.Races.{Race}
 use Rattle.itp_automaton.specs.Certified.{Certificate}
-use Rattle.generated_program.specs.Generated.{generated}
+use Rattle.automizer_top.specs.GeneratedProgram.Generated.{generated}
 use Rattle.automizer_top.specs.CommandLine.{Check, Replay, Print, Verify, Big, Settings}
 use Rattle.text_reports.specs.ReportTexts.{Answer, syntax_answer}
 use Rattle.automizer_top.specs.Report.{Ask, IsTypedText, IsFailureText, ReportsVerdict, Reports}

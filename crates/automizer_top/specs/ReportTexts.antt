@@ -1,8 +1,8 @@
 -- What the program answers to faulty words and to lassos, and of races; the other answers are those to texts.
 use Rattle.std.specs.Prelude.{ℕ, List, [], ◌∷◌, length, codes}
 use Rattle.proof_check.specs.declared.rejects.RejectCause.TheVariants as rejects
-use Rattle.lasso_ranks.specs.declared.lassos.LassoFault.{LassoFault}
-use Rattle.lasso_ranks.specs.declared.lassos.LassoFault.TheVariants as lasso_faults
+use Rattle.rank_lasso.specs.declared.lasso_ranks.lassos.LassoFault.{LassoFault}
+use Rattle.rank_lasso.specs.declared.lasso_ranks.lassos.LassoFault.TheVariants as lasso_faults
 use Rattle.race_core.specs.Races.{Race}
 use Rattle.itp_automaton.specs.Certified.{Certificate}
 use Rattle.race_verdicts.specs.declared.verdicts.Verdict.{Verdict}

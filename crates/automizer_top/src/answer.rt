@@ -1,5 +1,5 @@
 ghost use Rattle.std.specs.Prelude.{◌≡◌, [], ◌∷◌, IfOk};
-ghost use Rattle.automizer_top.specs.Answers.{answered};
+ghost use Rattle.automizer_top.specs.Ties.Answers.{answered};
 ghost use Rattle.automizer_top.specs.Verdicts.{verdict_status};
 
 use boogie_types::Span;

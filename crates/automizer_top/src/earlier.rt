@@ -3,12 +3,12 @@
 ghost use Rattle.std.specs.Prelude.{◌≡◌, ◌≢◌, ◌≤◌, ℕ, length, Err, IfOk, IfSome, MatchResult};
 ghost use Rattle.outer_io.specs.Faults.{Rose};
 ghost use Rattle.outer_io.specs.Texts.{text_named};
-ghost use Rattle.typing_rules.specs.TypedParts.{typed_program};
+ghost use Rattle.typed_tree.specs.TypingRules.TypedParts.{typed_program};
 ghost use Rattle.race_rounds.specs.Limits.{AreInRange};
 ghost use Rattle.text_reports.specs.Answers.{answer_of, IsGraphOf, HasNoErrorWord, TextIsSafe};
-ghost use Rattle.automizer_top.specs.Answers.{answered};
+ghost use Rattle.automizer_top.specs.Ties.Answers.{answered};
 ghost use Rattle.automizer_top.specs.Earlier.{ReportsReuse, ReportsVerifyWith};
-ghost use Rattle.automizer_top.specs.EarlierViews.{IsLeftOf, RefusesText};
+ghost use Rattle.automizer_top.specs.Ties.EarlierViews.{IsLeftOf, RefusesText};
 ghost use Rattle.automizer_top.specs.Report.{ReportsSecond};
 
 use crate::answer::Answer;

@@ -4,20 +4,22 @@ ghost use Rattle.std.specs.Prelude.{◌≡◌, ◌≤◌, Some, IfOk, codes};
 ghost use Rattle.boogie_run.specs.Runs.{IsSafe};
 ghost use Rattle.typed_tree.specs.TypedTree.{TypedProgram};
 ghost use Rattle.typed_tree.specs.declared.fault.TypeFault.TheVariants.{Memory};
-ghost use Rattle.typing_rules.specs.TypedParts.{typed_program};
+ghost use Rattle.typed_tree.specs.TypingRules.TypedParts.{typed_program};
 ghost use Rattle.boogie_types.specs.Resolved.{resolved_program};
 ghost use Rattle.proof_check.specs.Proves.{Proves};
 ghost use Rattle.race_rounds.specs.Limits.{AreInRange};
-ghost use Rattle.generated_program.specs.Generated.{generated};
+ghost use Rattle.automizer_top.specs.GeneratedProgram.Generated.{generated};
 ghost use Rattle.text_reports.specs.Answers.{IsGraphOf, HasNoErrorWord};
-ghost use Rattle.automizer_top.specs.Answers.{answered, VerdictProves};
+ghost use Rattle.automizer_top.specs.Ties.Answers.{answered, VerdictProves};
 ghost use Rattle.automizer_top.specs.Report.{ReportsBig};
 ghost use Rattle.automizer_top.specs.Verdicts.{verdict_status};
 
 use crate::answer::Answer;
+use crate::generated_program::{
+    generated, generated_programs_are_lowered, generated_programs_are_typed,
+};
 use crate::summary::summary;
 use boogie_types::{TypeFault, Typed, resolve};
-use generated_program::{generated, generated_programs_are_lowered, generated_programs_are_typed};
 use letter_acts::Icfg;
 use proof_check::{Reject, check};
 use proof_form::Annotation;

@@ -4,6 +4,7 @@
 mod answer;
 mod earlier;
 mod generated;
+pub mod generated_program;
 mod part_texts;
 mod parts;
 mod rankings;

@@ -3,13 +3,13 @@
 ghost use Rattle.std.specs.Prelude.{◌≡◌, ◌≢◌, ◌≤◌, List, ℕ, length, Err, IfOk, IfSome};
 ghost use Rattle.outer_io.specs.Faults.{Rose};
 ghost use Rattle.outer_io.specs.Texts.{text_named};
-ghost use Rattle.lasso_ranks.specs.declared.lassos.LassoFault.TheVariants.{Memory};
-ghost use Rattle.lasso_ranks.specs.Lassos.{plain_lasso, IsLassoOf};
-ghost use Rattle.lasso_ranks.specs.Ranks.{plain_ranking, IsRankingOver};
+ghost use Rattle.rank_lasso.specs.declared.lasso_ranks.lassos.LassoFault.TheVariants.{Memory};
+ghost use Rattle.rank_lasso.specs.LassoRanks.Lassos.{plain_lasso, IsLassoOf};
+ghost use Rattle.rank_lasso.specs.LassoRanks.Ranks.{plain_ranking, IsRankingOver};
 ghost use Rattle.rank_lasso.specs.LassoText.{IsWritable};
 ghost use Rattle.rank_lasso.specs.Faults.{IsReadAs};
 ghost use Rattle.text_reports.specs.Answers.{answer_of};
-ghost use Rattle.automizer_top.specs.Answers.{answered, TextIsGraph};
+ghost use Rattle.automizer_top.specs.Ties.Answers.{answered, TextIsGraph};
 ghost use Rattle.text_reports.specs.ReportTexts.{failed_answer};
 ghost use Rattle.automizer_top.specs.ReportTexts.{fault_answer};
 ghost use Rattle.automizer_top.specs.Report.{ReportsSecond};

@@ -2,13 +2,13 @@ ghost use Rattle.std.specs.Prelude.{◌≡◌, ◌≢◌, ◌≤◌, ℕ, List, 
 ghost use Rattle.std.specs.String.{string_bytes};
 ghost use Rattle.outer_io.specs.Faults.{Rose};
 ghost use Rattle.outer_io.specs.Texts.{text_named};
-ghost use Rattle.typing_rules.specs.TypedParts.{typed_program};
+ghost use Rattle.typed_tree.specs.TypingRules.TypedParts.{typed_program};
 ghost use Rattle.race_rounds.specs.Limits.{AreInRange};
 ghost use Rattle.text_reports.specs.Answers.{IsGraphOf, HasNoErrorWord, TextIsSafe};
 ghost use Rattle.text_reports.specs.ReportTexts.{accepted_answer};
-ghost use Rattle.automizer_top.specs.Answers.{answered, Asks, CheckedIsSafe, VerifiedIsSafe, BuiltIsSafe, RankedIsGraph, decided_answer};
+ghost use Rattle.automizer_top.specs.Ties.Answers.{answered, Asks, CheckedIsSafe, VerifiedIsSafe, BuiltIsSafe, RankedIsGraph, decided_answer};
 ghost use Rattle.automizer_top.specs.CommandLine.{requested};
-ghost use Rattle.automizer_top.specs.EarlierViews.{IsGivenOver};
+ghost use Rattle.automizer_top.specs.Ties.EarlierViews.{IsGivenOver};
 ghost use Rattle.automizer_top.specs.Report.{Reports, ReportsVerdict, ReportsVerify, ReportsCheckBy, ReportsReplayBy, ReportsVerifyBy};
 ghost use Rattle.automizer_top.specs.Verdicts.{verdict_status};
 

@@ -4,13 +4,15 @@ ghost use Rattle.clap.specs.Matches.{found_of};
 ghost use Rattle.clap.specs.Walk.{rows_of};
 ghost use Rattle.clap.specs.Simple.{app_of};
 ghost use Rattle.race_rounds.specs.Limits.{AreInRange};
-ghost use Rattle.automizer_top.specs.Asked.{asked, task, settings, program_name, IsCounted};
+ghost use Rattle.automizer_top.specs.Ties.Asked.{asked, task, settings, program_name, IsCounted};
 ghost use Rattle.automizer_top.specs.CommandLine as line;
 
 use clap::{ArgMatches, Command};
-use command_words::{bare_command, flag, is_set, matched, option, optional, positional, value};
 use race_rounds::Limits;
 use std::alloc::{AllocError, Global};
+use text_reports::command_words::{
+    bare_command, flag, is_set, matched, option, optional, positional, value,
+};
 
 /// What is to be done with texts of these names.
 #[derive(Clone, Copy)]

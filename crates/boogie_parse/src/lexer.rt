@@ -2,10 +2,10 @@
 
 ghost use Rattle.std.specs.Prelude.{◌≡◌, ◌≢◌, ◌+◌, ◌<◌, ◌^◌, length, map, Ok, Err, IfOk, IfErr};
 ghost use Rattle.std.specs.List.{AllByRecursion};
-ghost use Rattle.boogie_parse.specs.Symbols.{LiteralFits};
-ghost use Rattle.boogie_parse.specs.Lexed.{found_in, tokens_or_fault, lexed};
-ghost use Rattle.boogie_parse.specs.PieceViews.{piece};
-ghost use Rattle.boogie_parse.specs.Slices.{AreSlices};
+ghost use Rattle.boogie_parse.specs.Lexing.Symbols.{LiteralFits};
+ghost use Rattle.boogie_parse.specs.Lexing.Lexed.{found_in, tokens_or_fault, lexed};
+ghost use Rattle.boogie_parse.specs.Ties.PieceViews.{piece};
+ghost use Rattle.boogie_parse.specs.Lexing.Slices.{AreSlices};
 
 mod attributes;
 mod bytes;

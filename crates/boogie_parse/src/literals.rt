@@ -1,5 +1,5 @@
 ghost use Rattle.std.specs.Prelude.{◌≡◌, ◌^◌, ◌<◌};
-ghost use Rattle.boogie_parse.specs.Literals.{literal_of, digit_after};
+ghost use Rattle.boogie_parse.specs.Ties.Literals.{literal_of, digit_after};
 
 /// The largest literal.
 const LARGEST: u128 = u128::MAX >> 1;

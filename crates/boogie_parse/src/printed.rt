@@ -2,9 +2,9 @@
 
 ghost use Rattle.std.specs.Prelude.{ℕ, List};
 ghost use Rattle.boogie_tree.specs.Tree.{Declaration};
-ghost use Rattle.boogie_parse.specs.GrammarLimits.{IsInGrammar, IsProgram};
-ghost use Rattle.boogie_parse.specs.GrammarProgram.{joined_groups};
-ghost use Rattle.boogie_parse.specs.PrintedTokens.{IsSpellableProgram, HasSigns};
+ghost use Rattle.boogie_parse.specs.Rules.GrammarLimits.{IsInGrammar, IsProgram};
+ghost use Rattle.boogie_parse.specs.Rules.GrammarProgram.{joined_groups};
+ghost use Rattle.boogie_parse.specs.Spelling.PrintedTokens.{IsSpellableProgram, HasSigns};
 
 /// The text of a program whose names are names and whose literals are in range has the signs of the program, token by token.
 pub(crate) fn printed_text_has_its_signs()

@@ -3,7 +3,7 @@
 ghost use Rattle.std.specs.Prelude.{◌≡◌, ◌<◌, ◌^◌, pos, map, IfOk};
 ghost use Rattle.std.specs.List.{AllByRecursion};
 ghost use Rattle.std.specs.Str.Parse.{digits_value};
-ghost use Rattle.boogie_parse.specs.Symbols as spec;
+ghost use Rattle.boogie_parse.specs.Lexing.Symbols as spec;
 ghost use Rattle.boogie_parse.specs.declared.symbols.Sign.TheVariants.{Number};
 
 use crate::lexer::Token;

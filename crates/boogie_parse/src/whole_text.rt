@@ -4,14 +4,14 @@ ghost use Rattle.std.specs.Prelude.{◌≡◌, ℕ, ◌+◌, ◌<◌, ◌^◌, L
 ghost use Rattle.boogie_tree.specs.Tree.{Declaration};
 ghost use Rattle.boogie_tree.specs.View.{program};
 ghost use Rattle.boogie_parse.specs.declared.fault.Fault.{Fault};
-ghost use Rattle.boogie_parse.specs.Lexed.{lexed};
-ghost use Rattle.boogie_parse.specs.GrammarLimits.{IsProgram};
-ghost use Rattle.boogie_parse.specs.ListViews.{Gives};
-ghost use Rattle.boogie_parse.specs.PrintedTokens.{IsSpellableProgram};
-ghost use Rattle.boogie_parse.specs.Parentheses.{ParenthesesAreNeeded};
-ghost use Rattle.boogie_parse.specs.Respelled.{IsProgramAgain};
+ghost use Rattle.boogie_parse.specs.Lexing.Lexed.{lexed};
+ghost use Rattle.boogie_parse.specs.Rules.GrammarLimits.{IsProgram};
+ghost use Rattle.boogie_parse.specs.Reading.ListViews.{Gives};
+ghost use Rattle.boogie_parse.specs.Spelling.PrintedTokens.{IsSpellableProgram};
+ghost use Rattle.boogie_parse.specs.Spelling.Parentheses.{ParenthesesAreNeeded};
+ghost use Rattle.boogie_parse.specs.Spelling.Respelled.{IsProgramAgain};
 ghost use Rattle.boogie_tree.specs.Printing.{program_text};
-ghost use Rattle.boogie_parse.specs.WholeText.{text_end, read_text, IsOrMemory, IsOutside, IfSyntax, IfLimit, IsLimitAt, IfTokenFault, IsFaultOf};
+ghost use Rattle.boogie_parse.specs.Rules.WholeText.{text_end, read_text, IsOrMemory, IsOutside, IfSyntax, IfLimit, IsLimitAt, IfTokenFault, IsFaultOf};
 
 use crate::fault::Fault;
 use crate::grammar::parser::Parser;

@@ -10,14 +10,14 @@ use Rattle.boogie_tree.specs.declared.tree.VarInfo.{VarInfo}
 use Rattle.typed_tree.specs.Values.{member, value}
 use Rattle.typed_tree.specs.Scope.{axiom_scope}
 use Rattle.typed_tree.specs.TypedTree.{TypedExpression, TypedBlock, Empty, Then, Assert, Assume, Havoc, Assign, Call, If, While, Break, Goto, Return, Label, TypedProcedure, TypedProgram}
-use Rattle.typing_rules.specs.Counts.{numbers_fit}
-use Rattle.typing_rules.specs.Rules.{meets, is_condition, is_specification, procedure_keeps_rules, is_body_if_any, within, context_of, keeps_typing}
-use Rattle.typing_rules.specs.Shape.{are_names, are_locals, are_modified, is_body_shaped, is_procedure_shaped, has_shape}
-use Rattle.typing_rules.specs.ValidProgram.{has_body, has_entry, is_typed, is_valid}
-use Rattle.boogie_points.specs.Points.{Todo, Point, settled, past_first}
-use Rattle.boogie_points.specs.Actions as actions
-use Rattle.boogie_points.specs.Actions.{Action, action_at, first_assertion, first_place, free_conditions, start_conditions}
-use Rattle.boogie_points.specs.Starts.{point_of_procedure, point_of_call, unless_none, start_point_of, targets_at}
+use Rattle.typed_tree.specs.TypingRules.Counts.{numbers_fit}
+use Rattle.typed_tree.specs.TypingRules.Rules.{meets, is_condition, is_specification, procedure_keeps_rules, is_body_if_any, within, context_of, keeps_typing}
+use Rattle.typed_tree.specs.TypingRules.Shape.{are_names, are_locals, are_modified, is_body_shaped, is_procedure_shaped, has_shape}
+use Rattle.typed_tree.specs.TypingRules.ValidProgram.{has_body, has_entry, is_typed, is_valid}
+use Rattle.boogie_run.specs.BoogiePoints.Points.{Todo, Point, settled, past_first}
+use Rattle.boogie_run.specs.BoogiePoints.Actions as actions
+use Rattle.boogie_run.specs.BoogiePoints.Actions.{Action, action_at, first_assertion, first_place, free_conditions, start_conditions}
+use Rattle.boogie_run.specs.BoogiePoints.Starts.{point_of_procedure, point_of_call, unless_none, start_point_of, targets_at}
 use Rattle.boogie_run.specs.Configurations.{Frame, Config, state_of}
 use Rattle.boogie_run.specs.Needs.{need, is_taken, locals_at}
 use Rattle.boogie_run.specs.Steps.{Outcome, Went, Blocked, Failed, Ended, Refused, put, written, all_written, all_put, modifies_of, moved_to, kept_on, kept_to, passed_state, granted_state, finished, entered, left, results_left, is_true, went_if, act, with_global, with_local, next, step, start}

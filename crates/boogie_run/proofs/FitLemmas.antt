@@ -1,9 +1,9 @@
 -- Configurations stay those of their program.
 use Rattle.std.proofs.Common.{◌≡◌, ◌<◌, ℕ, ◌+◌, ℤ, List, [], ◌∷◌, ◌++◌, length, length-append, slice_index_or, slice_set, length-set, subst, sym, ◌∙◌, arith}
 use Rattle.typed_tree.specs.TypedTree.{TypedProgram}
-use Rattle.typing_rules.specs.TypedParts.{TypedParts, typed_program}
-use Rattle.boogie_points.specs.Room.{PointHasRoom}
-use Rattle.boogie_points.specs.View.{point_of}
+use Rattle.typed_tree.specs.TypingRules.TypedParts.{TypedParts, typed_program}
+use Rattle.boogie_run.specs.BoogiePoints.Room.{PointHasRoom}
+use Rattle.boogie_run.specs.BoogiePoints.View.{point_of}
 use Rattle.boogie_run.specs.declared.configurations.RunFrame.{RunFrame}
 use Rattle.boogie_run.specs.declared.configurations.Config as code
 use Rattle.boogie_run.specs.Configurations.{Frame}

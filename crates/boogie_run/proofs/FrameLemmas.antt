@@ -2,7 +2,7 @@
 use Rattle.std.proofs.Common.{◌≡◌, ◌<◌, ℕ, zero, suc, ◌+◌, ◌-◌, ℤ, List, [], ◌∷◌, ◌++◌, take, map, length, length-append, slice_index_or, slice_set, refl, ap, sym, ◌∙◌, arith}
 use Rattle.std.proofs.lemmas.List.{reverse-append, length-reverse, length-map}
 use Rattle.boogie_run.specs.declared.configurations.RunFrame.{RunFrame}
-use Rattle.boogie_points.specs.Points.{Point}
+use Rattle.boogie_run.specs.BoogiePoints.Points.{Point}
 use Rattle.boogie_run.specs.Configurations.{Frame}
 use Rattle.boogie_run.specs.Steps.{moved_to}
 use Rattle.boogie_run.specs.RunView.{frame_of, frames_of, config_with}

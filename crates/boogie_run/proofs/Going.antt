@@ -3,7 +3,7 @@ use Rattle.std.proofs.Common.{◌≡◌, ◌∙◌, ℕ, ℤ, List, [], ◌∷�
 use Rattle.boogie_tree.specs.declared.tree.Column.{Column}
 use Rattle.boogie_tree.specs.declared.tree.Column.TheVariants as columns
 use Rattle.typed_tree.specs.TypedTree.{TypedProgram}
-use Rattle.boogie_points.specs.Points.{Point}
+use Rattle.boogie_run.specs.BoogiePoints.Points.{Point}
 use Rattle.boogie_run.specs.Configurations.{Config}
 use Rattle.boogie_run.specs.Steps.{Went, written, all_written, all_put, modifies_of, finished, moved_to, kept_on, went_if}
 use Rattle.boogie_run.specs.ToldActs.{kept_on_if}

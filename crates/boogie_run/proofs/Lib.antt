@@ -14,3 +14,6 @@ pub mod FrameLemmas
 pub mod FitLemmas
 pub mod ToldLemmas
 mod WriteSteps
+pub mod BoogiePoints
+pub mod BoogiePlaces
+pub mod RunDefaults

@@ -2,8 +2,8 @@
 use Rattle.std.proofs.Common.{◌≡◌, ◌<◌, ◌≤◌, ℕ, ℤ, true, false, nat_lt, length, slice_get, Result, Ok, Err, arith}
 use Rattle.std.proofs.lemmas.Bool.Decides.{nat_tests}
 use Rattle.typed_tree.specs.TypedTree.{TypedProgram}
-use Rattle.boogie_points.specs.Actions.{action_at}
-use Rattle.boogie_points.specs.Told.{told, ways_of}
+use Rattle.boogie_run.specs.BoogiePoints.Actions.{action_at}
+use Rattle.boogie_run.specs.BoogiePoints.Told.{told, ways_of}
 use Rattle.boogie_run.specs.declared.types.Moved.{Moved}
 use Rattle.boogie_run.specs.declared.types.RunFault.{RunFault}
 use Rattle.boogie_run.specs.Configurations.{Config}

@@ -2,8 +2,8 @@
 use Rattle.std.proofs.Common.{◌≡◌, ℕ, ℤ, true, false, [], ◌∷◌, length, slice_get, refl, if◌then◌else◌}
 use Rattle.typed_tree.specs.TypedTree.{TypedProgram}
 use Rattle.typed_tree.specs.Values.{value}
-use Rattle.boogie_points.specs.Actions.{Action, Check, Suppose, Demand, Write, Guess, Test, Pick, Jump, Enter, Keep, Grant, Finish, Leave}
-use Rattle.boogie_points.specs.Told.{told, ways_of}
+use Rattle.boogie_run.specs.BoogiePoints.Actions.{Action, Check, Suppose, Demand, Write, Guess, Test, Pick, Jump, Enter, Keep, Grant, Finish, Leave}
+use Rattle.boogie_run.specs.BoogiePoints.Told.{told, ways_of}
 use Rattle.boogie_run.specs.Configurations.{Config, state_of}
 use Rattle.boogie_run.specs.Needs.{need_of_action}
 use Rattle.boogie_run.specs.Steps.{Outcome, Went, moved_to, act, is_true, went_if}

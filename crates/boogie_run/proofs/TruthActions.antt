@@ -12,13 +12,13 @@ use Rattle.typed_tree.specs.Scope.{Scope, body_scope}
 use Rattle.typed_tree.specs.Values.{State}
 use Rattle.typed_tree.specs.Laws.{BooleansHold}
 use Rattle.typed_tree.specs.TypedTree.{TypedExpression, TypedGuard, Any, Cond, TypedInvariant, TypedStatement, Assert, Assume, Havoc, Assign, Call, If, While, Break, Goto, Return, Label, TypedBlock, Empty, Then, TypedProcedure, TypedProgram}
-use Rattle.typing_rules.specs.Counts.{block_assertions, block_points, plain_invariants}
-use Rattle.typing_rules.specs.Rules.{Context, meets, is_member, are_targets, values_agree, arguments_agree, results_agree, params_of, results_of, is_call, is_statement, is_block}
-use Rattle.boogie_points.specs.Points as points
-use Rattle.boogie_points.specs.Points.{Todo, Point, at_exit, unless_ended, settled, past, broken, found_block}
-use Rattle.boogie_points.specs.Actions as actions
-use Rattle.boogie_points.specs.Actions.{Action, next_part, guarded, checked, plain_conditions, ensured_conditions, results_from, chosen_columns, unseen_action, called_action, call_action, call_if_any, head_action, point_behind, ways_to, one_of, havoc_action, statement_action, block_action, body_action, entry_point, entry_action, exit_action, start_action, stage_action, body_or_leave, procedure_action}
-use Rattle.boogie_points.specs.Starts.{targets_at}
+use Rattle.typed_tree.specs.TypingRules.Counts.{block_assertions, block_points, plain_invariants}
+use Rattle.typed_tree.specs.TypingRules.Rules.{Context, meets, is_member, are_targets, values_agree, arguments_agree, results_agree, params_of, results_of, is_call, is_statement, is_block}
+use Rattle.boogie_run.specs.BoogiePoints.Points as points
+use Rattle.boogie_run.specs.BoogiePoints.Points.{Todo, Point, at_exit, unless_ended, settled, past, broken, found_block}
+use Rattle.boogie_run.specs.BoogiePoints.Actions as actions
+use Rattle.boogie_run.specs.BoogiePoints.Actions.{Action, next_part, guarded, checked, plain_conditions, ensured_conditions, results_from, chosen_columns, unseen_action, called_action, call_action, call_if_any, head_action, point_behind, ways_to, one_of, havoc_action, statement_action, block_action, body_action, entry_point, entry_action, exit_action, start_action, stage_action, body_or_leave, procedure_action}
+use Rattle.boogie_run.specs.BoogiePoints.Starts.{targets_at}
 use Rattle.boogie_run.specs.Needs.{locals_at, locals_if_any}
 use Rattle.boogie_run.specs.Steps.{values, modifies_of}
 use Rattle.boogie_run.specs.Laws.{TruthsHold}

@@ -15,8 +15,8 @@ use Rattle.typed_tree.specs.KeptRules.{is_arithmetic, is_right}
 use Rattle.typed_tree.specs.Values.{State, member, value}
 use Rattle.typed_tree.specs.Laws.{IsTruth, BooleansHold}
 use Rattle.typed_tree.proofs.Truths.{truth_value}
-use Rattle.typing_rules.specs.Rules.{meets, column_has, values_agree, arguments_agree, results_agree}
-use Rattle.boogie_points.specs.Actions.{results_from}
+use Rattle.typed_tree.specs.TypingRules.Rules.{meets, column_has, values_agree, arguments_agree, results_agree}
+use Rattle.boogie_run.specs.BoogiePoints.Actions.{results_from}
 use Rattle.boogie_run.specs.Configurations.{Config}
 use Rattle.boogie_run.specs.Needs as needs
 use Rattle.boogie_run.specs.Needs.{Need, need_of, need_of_type, need_of_column, is_taken}

@@ -9,12 +9,12 @@ use Rattle.boogie_tree.specs.declared.tree.VarInfo.{VarInfo}
 use Rattle.typed_tree.specs.AffineForm.{is_empty}
 use Rattle.typed_tree.specs.Scope.{Scope, body_scope}
 use Rattle.typed_tree.specs.TypedTree.{TypedExpression, TypedGuard, Any, Cond, TypedInvariant, TypedStatement, Assert, Assume, Havoc, Assign, Call, If, While, Break, Goto, Return, Label, TypedBlock, Empty, Then, TypedProcedure, TypedProgram}
-use Rattle.typing_rules.specs.Counts.{block_assertions, block_points, plain_invariants}
-use Rattle.typing_rules.specs.Rules.{Context, meets, all_differ, same_column, is_member, is_writable, are_targets, values_agree, is_call, is_statement, is_block}
-use Rattle.boogie_points.specs.Points as points
-use Rattle.boogie_points.specs.Points.{Todo, Point, at_exit, settled, past, broken, found_block}
-use Rattle.boogie_points.specs.Actions as actions
-use Rattle.boogie_points.specs.Actions.{Action, next_part, guarded, checked, unseen_action, called_action, call_action, call_if_any, head_action, point_behind, ways_to, one_of, havoc_action, statement_action, block_action, body_action, entry_point, first_point, entry_action, exit_action, start_action, stage_action, body_or_leave, procedure_action}
+use Rattle.typed_tree.specs.TypingRules.Counts.{block_assertions, block_points, plain_invariants}
+use Rattle.typed_tree.specs.TypingRules.Rules.{Context, meets, all_differ, same_column, is_member, is_writable, are_targets, values_agree, is_call, is_statement, is_block}
+use Rattle.boogie_run.specs.BoogiePoints.Points as points
+use Rattle.boogie_run.specs.BoogiePoints.Points.{Todo, Point, at_exit, settled, past, broken, found_block}
+use Rattle.boogie_run.specs.BoogiePoints.Actions as actions
+use Rattle.boogie_run.specs.BoogiePoints.Actions.{Action, next_part, guarded, checked, unseen_action, called_action, call_action, call_if_any, head_action, point_behind, ways_to, one_of, havoc_action, statement_action, block_action, body_action, entry_point, first_point, entry_action, exit_action, start_action, stage_action, body_or_leave, procedure_action}
 use Rattle.boogie_run.proofs.TypedPoints as typed
 use Rattle.boogie_run.proofs.TypedPoints.{IsKept, AreKept}
 

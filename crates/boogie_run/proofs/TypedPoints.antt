@@ -6,9 +6,9 @@ use Rattle.std.proofs.lemmas.Bool.{and_parts}
 use Rattle.boogie_tree.specs.declared.span.Span.{Span}
 use Rattle.typed_tree.specs.Scope.{body_scope}
 use Rattle.typed_tree.specs.TypedTree.{TypedGuard, TypedInvariant, TypedStatement, Assert, Assume, Havoc, Assign, Call, If, While, Break, Goto, Return, Label, TypedBlock, Empty, Then, TypedProcedure, TypedProgram}
-use Rattle.typing_rules.specs.Counts.{assertions, points, block_assertions, block_points, plain_invariants}
-use Rattle.typing_rules.specs.Rules.{Context, is_guard, is_invariant, is_statement, is_block, within, looped}
-use Rattle.boogie_points.specs.Points.{Todo, Point, unless_ended, settled, past, past_block, past_first, broken, found_in, found_block}
+use Rattle.typed_tree.specs.TypingRules.Counts.{assertions, points, block_assertions, block_points, plain_invariants}
+use Rattle.typed_tree.specs.TypingRules.Rules.{Context, is_guard, is_invariant, is_statement, is_block, within, looped}
+use Rattle.boogie_run.specs.BoogiePoints.Points.{Todo, Point, unless_ended, settled, past, past_block, past_first, broken, found_in, found_block}
 
 module _ (t : TypedProgram) (q : TypedProcedure) where
   -- the context is one of the procedure's body

@@ -2,7 +2,7 @@
 use Rattle.std.proofs.Common.{◌≡◌, ◌∙◌, ℕ, ◌+◌, ◌<◌, ℤ, List, [], ◌∷◌, length, drop, get_or, Option, None, Some, ap, sym}
 use Rattle.std.proofs.lemmas.List.{at_drop_more}
 use Rattle.boogie_tree.specs.declared.tree.Column.{Column}
-use Rattle.boogie_points.specs.Points.{Point}
+use Rattle.boogie_run.specs.BoogiePoints.Points.{Point}
 use Rattle.boogie_run.specs.Configurations.{Config}
 use Rattle.boogie_run.specs.Steps.{Went, put, all_put, written, all_written, kept_on, moved_to, went_if}
 use Rattle.boogie_run.specs.ToldActs.{kept_on_if}

@@ -1,7 +1,7 @@
 -- Configurations of runs.
 use Rattle.std.specs.Prelude.{ℕ, ℤ, List}
 use Rattle.typed_tree.specs.Values.{State}
-use Rattle.boogie_points.specs.Points.{Point}
+use Rattle.boogie_run.specs.BoogiePoints.Points.{Point}
 
 -- A frame: its procedure, its locals so far, the constants and globals at its entry, its point, and what a call without body has chosen.
 pub record Frame : Type 0 where

@@ -6,7 +6,7 @@ use Rattle.boogie_tree.specs.declared.tree.VarInfo.{VarInfo}
 use Rattle.typed_tree.specs.TypedTree.{TypedProgram}
 use Rattle.typed_tree.specs.Values.{member}
 use Rattle.typed_tree.specs.Laws.{IsTruth}
-use Rattle.typing_rules.specs.ValidProgram.{is_valid}
+use Rattle.typed_tree.specs.TypingRules.ValidProgram.{is_valid}
 use Rattle.boogie_run.specs.Configurations.{Frame, Config}
 use Rattle.boogie_run.specs.Needs.{locals_at}
 use Rattle.boogie_run.specs.Steps.{Went, start}

@@ -4,8 +4,11 @@ pub mod Steps
 pub mod Fitting
 pub mod Runs
 pub mod Evaluated
-pub mod Environments
 pub mod RunView
 pub mod ToldActs
 pub mod StepView
 pub mod Laws
+pub mod BoogiePoints
+pub mod BoogiePlaces
+pub mod RunDefaults
+pub mod Ties

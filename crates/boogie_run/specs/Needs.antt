@@ -6,7 +6,7 @@ use Rattle.boogie_tree.specs.declared.tree.Column.{Column}
 use Rattle.boogie_tree.specs.declared.tree.Column.TheVariants as columns
 use Rattle.boogie_tree.specs.declared.tree.VarInfo.{VarInfo}
 use Rattle.typed_tree.specs.TypedTree.{TypedProcedure, TypedProgram}
-use Rattle.boogie_points.specs.Actions.{Action, Guess, Pick, Keep, action_at}
+use Rattle.boogie_run.specs.BoogiePoints.Actions.{Action, Guess, Pick, Keep, action_at}
 use Rattle.boogie_run.specs.Configurations.{Config}
 
 -- nothing, a whole number, 0 or 1, or a number below n

@@ -2,11 +2,11 @@
 use Rattle.std.specs.Prelude.{◌≡◌, ◌<◌, ℤ, List, [], ◌∷◌, map, reverse, length}
 use Rattle.std.specs.List.{AllByRecursion}
 use Rattle.typed_tree.specs.TypedTree.{TypedProgram}
-use Rattle.typing_rules.specs.TypedParts.{TypedParts, typed_program}
-use Rattle.boogie_points.specs.Points.{at_exit}
-use Rattle.boogie_points.specs.View.{point_of}
-use Rattle.boogie_points.specs.Room.{PointHasRoom}
-use Rattle.boogie_points.specs.Numbered.{numbers_of}
+use Rattle.typed_tree.specs.TypingRules.TypedParts.{TypedParts, typed_program}
+use Rattle.boogie_run.specs.BoogiePoints.Points.{at_exit}
+use Rattle.boogie_run.specs.BoogiePoints.View.{point_of}
+use Rattle.boogie_run.specs.BoogiePoints.Room.{PointHasRoom}
+use Rattle.boogie_run.specs.BoogiePoints.Numbered.{numbers_of}
 use Rattle.boogie_run.specs.declared.configurations.RunFrame.{RunFrame}
 use Rattle.boogie_run.specs.declared.configurations.Config.{Config}
 use Rattle.boogie_run.specs.Configurations as spec

@@ -4,11 +4,11 @@ use Rattle.std.specs.Option.{option_map}
 use Rattle.math_facts.specs.Optional.{or_zero}
 use Rattle.typed_tree.specs.TypedTree.{TypedExpression, TypedProgram}
 use Rattle.typed_tree.specs.Values.{value}
-use Rattle.typing_rules.specs.TypedParts.{typed_program}
-use Rattle.boogie_points.specs.Points.{Point, settled, past_first}
-use Rattle.boogie_points.specs.Starts.{targets_at}
-use Rattle.boogie_points.specs.Actions as actions
-use Rattle.boogie_points.specs.Told.{Told, Grant, told, ways_of}
+use Rattle.typed_tree.specs.TypingRules.TypedParts.{typed_program}
+use Rattle.boogie_run.specs.BoogiePoints.Points.{Point, settled, past_first}
+use Rattle.boogie_run.specs.BoogiePoints.Starts.{targets_at}
+use Rattle.boogie_run.specs.BoogiePoints.Actions as actions
+use Rattle.boogie_run.specs.BoogiePoints.Told.{Told, Grant, told, ways_of}
 use Rattle.boogie_run.specs.declared.types.Choice.{Choice}
 use Rattle.boogie_run.specs.declared.types.Need.{Need}
 use Rattle.boogie_run.specs.declared.types.Need.TheVariants as code

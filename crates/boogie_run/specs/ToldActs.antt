@@ -2,8 +2,8 @@
 use Rattle.std.specs.Prelude.{ℕ, ℤ, unsigned_abs, List, Option, None, Some, slice_get, if◌then◌else◌}
 use Rattle.typed_tree.specs.TypedTree.{TypedProgram}
 use Rattle.typed_tree.specs.Values.{value, PartsFit}
-use Rattle.boogie_points.specs.Points.{Point}
-use Rattle.boogie_points.specs.Told.{Told, Check, Suppose, Demand, Write, Guess, Test, Pick, Jump, Enter, Keep, Grant, Finish, Leave}
+use Rattle.boogie_run.specs.BoogiePoints.Points.{Point}
+use Rattle.boogie_run.specs.BoogiePoints.Told.{Told, Check, Suppose, Demand, Write, Guess, Test, Pick, Jump, Enter, Keep, Grant, Finish, Leave}
 use Rattle.boogie_run.specs.Configurations.{Config, state_of}
 use Rattle.boogie_run.specs.Needs as needs
 use Rattle.boogie_run.specs.Steps.{Outcome, Went, Blocked, Failed, Refused, values, written, all_written, kept_on, kept_to, passed_state, granted_state, finished, entered, left, is_true, went_if}

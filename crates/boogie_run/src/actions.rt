@@ -2,7 +2,7 @@
 
 ghost use Rattle.std.specs.Prelude.{◌≡◌, pos, true, map};
 ghost use Rattle.typed_tree.specs.TypedView as view;
-ghost use Rattle.boogie_points.specs.Told.{Check, Suppose, Demand, Write, Guess, Test, Pick, Jump, told};
+ghost use Rattle.boogie_run.specs.BoogiePoints.Told.{Check, Suppose, Demand, Write, Guess, Test, Pick, Jump, told};
 ghost use Rattle.boogie_run.specs.RunView.{FitsProgram};
 ghost use Rattle.boogie_run.specs.StepView.{happening, Performs, is_below};
 

@@ -2,21 +2,21 @@
 
 ghost use Rattle.std.specs.Prelude.{◌≡◌, ◌<◌, pos, [], map, length, take, drop, slice_get};
 ghost use Rattle.typed_tree.specs.TypedView as view;
-ghost use Rattle.typing_rules.specs.TypedParts.{typed_program};
-ghost use Rattle.boogie_points.specs.Told.{Enter, Keep, Grant, Finish, Leave, told};
+ghost use Rattle.typed_tree.specs.TypingRules.TypedParts.{typed_program};
+ghost use Rattle.boogie_run.specs.BoogiePoints.Told.{Enter, Keep, Grant, Finish, Leave, told};
 ghost use Rattle.boogie_run.specs.Steps as spec;
 ghost use Rattle.boogie_run.specs.RunView.{frame_of, config_of, FitsProgram};
 ghost use Rattle.boogie_run.specs.StepView.{happening, Performs, IsGranted, returned};
 
+use crate::boogie_points::{entry_point, targets};
 use crate::configurations::{Config, RunFrame};
 use crate::evaluation::{Env, all_fit, all_values, value};
 use crate::frames::{env, go_keeping, go_with, pass, take_kept, top};
 use crate::types::{Moved, RunFault};
 use crate::writing::{put_all, write_all, write_globals};
-use boogie_points::{entry_point, targets};
 use boogie_tree::Column;
 use typed_tree::TExpr;
-use typing_rules::Typed;
+use typed_tree::typing_rules::Typed;
 
 /// The members from that number on.
 fn behind(values: &[i128], from: usize) -> &[i128]

@@ -2,16 +2,16 @@
 
 ghost use Rattle.std.specs.Prelude.{◌≡◌, true, Option, slice_get, IfOk};
 ghost use Rattle.std.specs.Option.{option_copied};
-ghost use Rattle.typing_rules.specs.TypedParts.{typed_program};
-ghost use Rattle.boogie_points.specs.View.{action_view};
+ghost use Rattle.typed_tree.specs.TypingRules.TypedParts.{typed_program};
+ghost use Rattle.boogie_run.specs.BoogiePoints.View.{action_view};
 ghost use Rattle.boogie_run.specs.Needs as spec;
 ghost use Rattle.boogie_run.specs.ToldActs.{told_need};
 ghost use Rattle.boogie_run.specs.StepView.{need_view, choice_view, IsChoice, is_way};
 
+use crate::boogie_points::Action;
 use crate::types::{Choice, Need, RunFault};
-use boogie_points::Action;
 use boogie_tree::{Column, Ty, VarInfo};
-use typing_rules::Typed;
+use typed_tree::typing_rules::Typed;
 
 /// The choice as a number, where it is one that the need takes.
 pub(crate) fn taken(need: Need, choice: Option<Choice>) -> Result<i128, RunFault>

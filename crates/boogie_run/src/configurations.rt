@@ -1,13 +1,13 @@
 //! Configurations of runs.
 
 ghost use Rattle.std.specs.Prelude.{◌≡◌, ◌<◌, length};
-ghost use Rattle.typing_rules.specs.TypedParts.{TypedParts};
-ghost use Rattle.boogie_points.specs.View.{point_of};
+ghost use Rattle.typed_tree.specs.TypingRules.TypedParts.{TypedParts};
+ghost use Rattle.boogie_run.specs.BoogiePoints.View.{point_of};
 ghost use Rattle.boogie_run.specs.RunView.{frame_of, frames_of, config_with, config_of, FitsProgram};
 
-use boogie_points::{Numbers, Point};
+use crate::boogie_points::{Numbers, Point};
 use std::alloc::Global;
-use typing_rules::Typed;
+use typed_tree::typing_rules::Typed;
 
 /// A procedure that runs.
 #[derive(Drop)]

@@ -7,7 +7,7 @@ ghost use Rattle.typed_tree.specs.Values as spec;
 ghost use Rattle.boogie_run.specs.Steps.{passed_state, values};
 ghost use Rattle.boogie_run.specs.Fitting.{ArgumentFits, PassedColumnFits, PassedPartsFit, PassedFit, AllFit};
 ghost use Rattle.boogie_run.specs.Evaluated.{IsValue, IsCause};
-ghost use Rattle.boogie_run.specs.Environments.{state, read_in};
+ghost use Rattle.boogie_run.specs.Ties.Environments.{state, read_in};
 
 use crate::types::RunFault;
 use std::alloc::Global;

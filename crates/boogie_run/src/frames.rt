@@ -1,19 +1,19 @@
 //! Reading and moving the frame that runs.
 
 ghost use Rattle.std.specs.Prelude.{◌≡◌, ◌<◌, [], length, slice_get, IsOk, IsErr, Some};
-ghost use Rattle.typing_rules.specs.TypedParts.{typed_program};
-ghost use Rattle.boogie_points.specs.Points.{settled, past_first};
-ghost use Rattle.boogie_points.specs.Told.{ways_of};
+ghost use Rattle.typed_tree.specs.TypingRules.TypedParts.{typed_program};
+ghost use Rattle.boogie_run.specs.BoogiePoints.Points.{settled, past_first};
+ghost use Rattle.boogie_run.specs.BoogiePoints.Told.{ways_of};
 ghost use Rattle.boogie_run.specs.Configurations.{state_of};
 ghost use Rattle.boogie_run.specs.Steps.{Went, went_if, moved_to, with_global, with_local};
-ghost use Rattle.boogie_run.specs.Environments.{state};
+ghost use Rattle.boogie_run.specs.Ties.Environments.{state};
 ghost use Rattle.boogie_run.specs.ToldActs.{kept_on_if, kept_to_if};
 ghost use Rattle.boogie_run.specs.RunView.{frame_of, config_of, FitsProgram};
 ghost use Rattle.boogie_run.specs.StepView.{happening};
 
+use crate::boogie_points::{go_on, pass_call};
 use crate::configurations::{Config, RunFrame};
 use crate::evaluation::Env;
-use boogie_points::{go_on, pass_call};
 use std::alloc::AllocError;
 
 /// The frame that runs.

@@ -2,6 +2,8 @@
 #![tactic(auto)]
 
 mod actions;
+pub mod boogie_places;
+pub mod boogie_points;
 mod calls;
 mod choices;
 mod configurations;
@@ -9,6 +11,7 @@ mod evaluation;
 mod frames;
 pub mod laws;
 mod observing;
+pub mod run_defaults;
 mod stepping;
 mod types;
 mod writing;

@@ -3,23 +3,23 @@
 ghost use Rattle.std.specs.Prelude.{◌≡◌, ◌∷◌, [], List, IfOk, IsOk, IfErr, MatchOption, length};
 ghost use Rattle.typed_tree.specs.TypedView as view;
 ghost use Rattle.typed_tree.specs.Values as spec;
-ghost use Rattle.typing_rules.specs.TypedParts.{typed_program};
-ghost use Rattle.boogie_points.specs.Actions as actions;
-ghost use Rattle.boogie_points.specs.Told.{told};
-ghost use Rattle.boogie_points.specs.View.{action_view};
+ghost use Rattle.typed_tree.specs.TypingRules.TypedParts.{typed_program};
+ghost use Rattle.boogie_run.specs.BoogiePoints.Actions as actions;
+ghost use Rattle.boogie_run.specs.BoogiePoints.Told.{told};
+ghost use Rattle.boogie_run.specs.BoogiePoints.View.{action_view};
 ghost use Rattle.boogie_run.specs.Configurations.{Frame, state_of};
 ghost use Rattle.boogie_run.specs.Steps.{is_true};
 ghost use Rattle.boogie_run.specs.RunView.{frame_of, config_of, FitsProgram};
 
+use crate::boogie_points::Action;
 use crate::configurations::{Config, RunFrame};
 use crate::evaluation::{column, value};
 use crate::frames::{env, top};
 use crate::stepping::action_here;
 use crate::types::RunFault;
-use boogie_points::Action;
 use boogie_tree::Column;
 use typed_tree::TExpr;
-use typing_rules::Typed;
+use typed_tree::typing_rules::Typed;
 
 /// The frame that runs.
 pub fn running<'c, 'a>(program: &Typed, config: &'c Config<'a>) -> &'c RunFrame<'a>

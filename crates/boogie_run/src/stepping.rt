@@ -1,10 +1,10 @@
 //! The start of a run, and one step.
 
 ghost use Rattle.std.specs.Prelude.{◌≡◌, ◌↔◌, true, Option, Ok, Err, IfOk, IsOk, IsErr};
-ghost use Rattle.typing_rules.specs.TypedParts.{typed_program};
-ghost use Rattle.boogie_points.specs.Actions.{action_at};
-ghost use Rattle.boogie_points.specs.View.{action_view};
-ghost use Rattle.boogie_points.specs.Told.{told};
+ghost use Rattle.typed_tree.specs.TypingRules.TypedParts.{typed_program};
+ghost use Rattle.boogie_run.specs.BoogiePoints.Actions.{action_at};
+ghost use Rattle.boogie_run.specs.BoogiePoints.View.{action_view};
+ghost use Rattle.boogie_run.specs.BoogiePoints.Told.{told};
 ghost use Rattle.boogie_run.specs.Fitting.{NextFits};
 ghost use Rattle.boogie_run.specs.Needs as needs;
 ghost use Rattle.boogie_run.specs.Steps as steps;
@@ -13,14 +13,14 @@ ghost use Rattle.boogie_run.specs.StepView.{need_view, choice_view, line_at, IsM
 ghost use Rattle.boogie_run.specs.ToldActs.{told_need};
 
 use crate::actions::{assign, check, demand, guess, jump, pick, suppose, test};
+use crate::boogie_points::{Action, Numbers, action_at, start_point};
 use crate::calls::{enter, finish, grant, keep, leave};
 use crate::choices::{locals_at, need_at, need_of_action, taken};
 use crate::configurations::{Config, RunFrame};
 use crate::frames::{choose_global, choose_local, top};
 use crate::types::{Choice, Moved, Need, RunFault};
-use boogie_points::{Action, Numbers, action_at, start_point};
 use std::alloc::{AllocError, Global};
-use typing_rules::Typed;
+use typed_tree::typing_rules::Typed;
 
 /// The configuration before the first step.
 pub fn start(alloc: Global, program: &Typed) -> Result<Config<'_>, AllocError>

@@ -9,7 +9,7 @@ use Rattle.typed_tree.specs.declared.fault.TypeFault.{TypeFault}
 use Rattle.typed_tree.specs.TypedTree.{TypedStatement, TypedBlock, Empty, Then}
 use Rattle.typed_tree.specs.TypedView as typed
 use Rattle.boogie_types.specs.Naming.{NamingPlace, named_statement, named_block, hidden_in, hidden_in_block, label_of, from_both, in_front}
-use Rattle.boogie_types.specs.Making.{made, block_made}
+use Rattle.boogie_types.specs.Ties.Making.{made, block_made}
 use Rattle.boogie_types.specs.BrokenNames.{IsMisnamed, IsMisnamedIn, first, later}
 
 in_front-append : (xs ys : List TypedStatement) (b : TypedBlock) → in_front (xs ++ ys) b ≡ in_front xs (in_front ys b)

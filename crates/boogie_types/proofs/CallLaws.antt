@@ -15,15 +15,15 @@ use Rattle.boogie_tree.specs.View as view
 use Rattle.typed_tree.specs.TypedTree.{TypedExpression, Var, TypedStatement, Assign, Call}
 use Rattle.boogie_types.specs.Naming.{NamingPlace, from_both, named, is_hidden, hidden_column, hidden_arguments, named_arguments, put_aside, named_call, procedure_number, params_named, params_if_any, targets_of}
 use Rattle.boogie_types.specs.Naming.{expression_span}
-use Rattle.boogie_types.specs.NamingFaults.{IsCallUnknown, callee, target, argument, IsCallFault}
+use Rattle.boogie_types.specs.Ties.NamingFaults.{IsCallUnknown, callee, target, argument, IsCallFault}
 use Rattle.boogie_types.proofs.FaultLaws.{or_memory_to}
 use Rattle.typed_tree.specs.declared.fault.TypeFault.{TypeFault}
 use Rattle.boogie_tree.specs.declared.tree.Column.{Column}
 use Rattle.boogie_tree.specs.declared.tree.Name.{Name}
-use Rattle.boogie_types.specs.Making.{made}
-use Rattle.boogie_types.specs.Numbers.{number_of_name}
-use Rattle.boogie_types.specs.Places.{procedure_texts}
-use Rattle.boogie_types.specs.Referred.{parameter_by}
+use Rattle.boogie_types.specs.Ties.Making.{made}
+use Rattle.boogie_types.specs.Ties.Numbers.{number_of_name}
+use Rattle.boogie_types.specs.Ties.Places.{procedure_texts}
+use Rattle.boogie_types.specs.Ties.Referred.{parameter_by}
 use Rattle.boogie_types.proofs.ArgumentLaws.{front, behind, together, needed, arguments_turn, aside_turn, count_turn}
 
 position_of_text : (t : List ℕ) (i : ℕ) (ps : List Procedure) → position_from (bytes_eq t) i (procedure_texts ps) ≡ position_from (λ q. bytes_eq t q.name.text) i ps

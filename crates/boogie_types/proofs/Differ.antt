@@ -3,7 +3,7 @@ use Rattle.std.proofs.Common.{◌≡◌, Bool, true, false, not, ◌||◌, List,
 use Rattle.std.specs.List.{list_any}
 use Rattle.std.proofs.lemmas.Bool.{and_parts, and_from, and_left, and_right, or_parts, or_from, or_cases, or_left, or_right, not-true, not_from_true, not_from_false, false≢true}
 use Rattle.std.proofs.lemmas.List.Folds.{list_any-append}
-use Rattle.typing_rules.specs.Rules.{all_differ}
+use Rattle.typed_tree.specs.TypingRules.Rules.{all_differ}
 
 pub all_differ-head : {X : Type 0} (same : X → X → Bool) (x : X) (xs : List X) → all_differ same (x ∷ xs) ≡ true →
     (list_any (same x) xs ≡ false) × (all_differ same xs ≡ true)

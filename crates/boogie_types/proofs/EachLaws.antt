@@ -3,7 +3,7 @@ use Rattle.std.proofs.Common.{◌≡◌, ℕ, ◌<◌, List, [], ◌∷◌, ◌+
 use Rattle.std.specs.Prelude.{option_and_then}
 use Rattle.std.specs.Option.{option_map}
 use Rattle.std.proofs.lemmas.List.{drop_more, map-append}
-use Rattle.boogie_types.specs.Making.{made}
+use Rattle.boogie_types.specs.Ties.Making.{made}
 use Rattle.boogie_types.specs.Naming.{each}
 
 -- one member more is made

@@ -8,10 +8,10 @@ use Rattle.typed_tree.specs.declared.fault.TypeFault.{TypeFault}
 use Rattle.typed_tree.specs.declared.fault.TypeFault.TheVariants as fault
 use Rattle.typed_tree.specs.TypedTree.{TypedExpression, TypedBlock, TypedProcedure, TypedProgram}
 use Rattle.typed_tree.specs.Scope.{axiom_scope}
-use Rattle.typing_rules.specs.Rules.{meets, keeps_typing}
-use Rattle.typing_rules.specs.Shape.{has_shape}
-use Rattle.typing_rules.specs.ValidProgram.{has_body, has_entry, is_typed}
-use Rattle.typing_rules.specs.BrokenTyping.{IsProgramBroken}
+use Rattle.typed_tree.specs.TypingRules.Rules.{meets, keeps_typing}
+use Rattle.typed_tree.specs.TypingRules.Shape.{has_shape}
+use Rattle.typed_tree.specs.TypingRules.ValidProgram.{has_body, has_entry, is_typed}
+use Rattle.typed_tree.specs.TypingRules.BrokenTyping.{IsProgramBroken}
 use Rattle.boogie_types.specs.Naming.{each, from_both, named, named_block}
 use Rattle.boogie_types.specs.Sorted.{declared_globals, axioms_of, procedures_of, first_named, body_of}
 use Rattle.boogie_types.specs.Resolved.{are_sets, are_implementations, body_place, named_specifications, named_modifies, named_body, procedure_of, named_procedure, program_of, named_program, entry_number, if_typed, resolved_program}

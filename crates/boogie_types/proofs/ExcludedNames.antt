@@ -10,7 +10,7 @@ use Rattle.boogie_types.specs.Meanings.{column_of}
 use Rattle.boogie_types.specs.Naming.{each, named, named_guard, named_invariant, columns_of, targets_of}
 use Rattle.boogie_types.specs.BrokenNames.{IsUnknownIn, unknown, in_old, in_not, in_neg, in_left, in_right, AreUnknownIn, one_of, IsTargetWrong, unknown_target, second_target, IsSecond, IsGuardUnknown, in_guard}
 use Rattle.std.specs.Str.{bytes_eq}
-use Rattle.typing_rules.specs.Rules.{all_differ}
+use Rattle.typed_tree.specs.TypingRules.Rules.{all_differ}
 use Rattle.boogie_types.proofs.Differ.{all_differ_repeat}
 use Rattle.boogie_types.proofs.NameLaws.{bytes_eq_turns}
 use Rattle.boogie_types.proofs.ExcludedLists.{any_of_member, if_none, option_map_none, both_left_none, both_right_none, each_none}

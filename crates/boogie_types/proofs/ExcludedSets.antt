@@ -4,7 +4,7 @@ use Rattle.std.specs.List.{list_all}
 use Rattle.std.proofs.lemmas.Bool.{and_left, and_right}
 use Rattle.boogie_tree.specs.declared.tree.Name.{Name}
 use Rattle.boogie_tree.specs.Tree.{Procedure, Declaration}
-use Rattle.typing_rules.specs.Rules.{meets}
+use Rattle.typed_tree.specs.TypingRules.Rules.{meets}
 use Rattle.boogie_types.specs.Sorted.{global_names, procedures_of, implementations_of, first_named, body_of, variable_names, labels_if_any}
 use Rattle.boogie_types.specs.Resolved.{is_set, has_sets, are_sets, repeats, implements, are_implementations}
 use Rattle.boogie_types.specs.BrokenNames.{IsSecond}

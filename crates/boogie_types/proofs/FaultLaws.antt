@@ -14,9 +14,9 @@ use Rattle.std.proofs.lemmas.List.{length-map}
 use Rattle.std.proofs.Math.ListN.{get_or-map}
 use Rattle.typed_tree.specs.Scope.{Scope}
 use Rattle.boogie_types.specs.Meanings.{column_of}
-use Rattle.boogie_types.specs.Numbers.{number_of_name, IsLabelsFault}
+use Rattle.boogie_types.specs.Ties.Numbers.{number_of_name, IsLabelsFault}
 use Rattle.boogie_types.specs.BrokenNames.{unknown, in_old, in_not, in_neg, in_left, in_right, one_of, unknown_target, in_guard, IsMisnamed, asserted, assumed, chosen, assigned, valued, unknown_callee, returned, passed, branched, in_then, in_else, looping, in_invariant, in_loop_body, no_such_loop, no_such_label, unlisted_label}
-use Rattle.boogie_types.specs.NamingFaults.{OrMemory, IsExpressionFault, AreExpressionsFault, IsTargetsFault, IsGuardFault, IsInvariantsFault, IsStatementFault, IsBlockFault, IsLeavingFault, IsCallFault, IsCallUnknown, callee, target, argument}
+use Rattle.boogie_types.specs.Ties.NamingFaults.{OrMemory, IsExpressionFault, AreExpressionsFault, IsTargetsFault, IsGuardFault, IsInvariantsFault, IsStatementFault, IsBlockFault, IsLeavingFault, IsCallFault, IsCallUnknown, callee, target, argument}
 
 -- what follows from a broken rule
 pub or_memory_to : (f : TypeFault) {A B : Type 0} → (A → B) → OrMemory f A → OrMemory f B

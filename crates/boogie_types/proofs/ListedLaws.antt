@@ -10,9 +10,9 @@ use Rattle.boogie_tree.specs.declared.tree.Name.{Name}
 use Rattle.boogie_tree.specs.declared.tree.Proc.{Proc}
 use Rattle.boogie_tree.specs.Tree.{Procedure}
 use Rattle.boogie_tree.specs.View as view
-use Rattle.boogie_types.specs.Numbers.{texts, text_of}
-use Rattle.boogie_types.specs.Places.{procedure_texts}
-use Rattle.boogie_types.specs.Referred.{procedures_by}
+use Rattle.boogie_types.specs.Ties.Numbers.{texts, text_of}
+use Rattle.boogie_types.specs.Ties.Places.{procedure_texts}
+use Rattle.boogie_types.specs.Ties.Referred.{procedures_by}
 use Rattle.boogie_types.specs.Sorted.{first_named}
 use Rattle.boogie_types.proofs.ShapeLists.{map-map}
 

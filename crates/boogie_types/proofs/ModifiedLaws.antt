@@ -19,11 +19,11 @@ use Rattle.typed_tree.specs.declared.fault.TypeFault.{TypeFault}
 use Rattle.typed_tree.specs.declared.fault.TypeFault.TheVariants as fault
 use Rattle.boogie_types.specs.Meanings.{number_from}
 use Rattle.boogie_types.specs.Naming.{each}
-use Rattle.boogie_types.specs.Numbers.{info_names, number_of_name}
+use Rattle.boogie_types.specs.Ties.Numbers.{info_names, number_of_name}
 use Rattle.boogie_types.specs.Sorted.{modified_in, firsts}
 use Rattle.boogie_types.specs.Resolved.{unless_constant, modified_number}
-use Rattle.boogie_types.specs.Making.{made}
-use Rattle.boogie_types.specs.Modified.{modified_numbers, AreModifiedWrong, unknown_name, constant_name, AreModifiedFault}
+use Rattle.boogie_types.specs.Ties.Making.{made}
+use Rattle.boogie_types.specs.Ties.Modified.{modified_numbers, AreModifiedWrong, unknown_name, constant_name, AreModifiedFault}
 use Rattle.boogie_types.proofs.FaultLaws.{or_memory_to}
 use Rattle.boogie_types.proofs.SeenNames.{number_is_place}
 use Rattle.boogie_types.proofs.ShapeLists.{option_map_some, each_parts}

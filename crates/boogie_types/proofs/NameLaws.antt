@@ -12,7 +12,7 @@ use Rattle.std.proofs.lemmas.List.{take_more, map-append, length-map, take-appen
 use Rattle.boogie_tree.specs.declared.tree.Name.{Name}
 use Rattle.boogie_types.specs.BrokenNames.{IsSecond}
 use Rattle.boogie_types.specs.Resolved.{is_set}
-use Rattle.boogie_types.specs.Numbers.{named_by, texts, number_of_name}
+use Rattle.boogie_types.specs.Ties.Numbers.{named_by, texts, number_of_name}
 use Rattle.boogie_types.proofs.Differ.{all_differ_push}
 
 -- ---- whether two texts are the same

@@ -11,11 +11,11 @@ use Rattle.typed_tree.specs.declared.fault.TypeFault.TheVariants as fault
 use Rattle.typed_tree.specs.TypedTree.{TypedExpression, TypedGuard, TypedStatement, TypedBlock, TypedSpecification, TypedProcedure, TypedProgram}
 use Rattle.typed_tree.specs.Scope.{Scope}
 use Rattle.typed_tree.specs.BrokenRules as rules_of
-use Rattle.typing_rules.specs.Rules.{Context}
-use Rattle.typing_rules.specs.BrokenTyping as typing
+use Rattle.typed_tree.specs.TypingRules.Rules.{Context}
+use Rattle.typed_tree.specs.TypingRules.BrokenTyping as typing
 use Rattle.boogie_types.specs.BrokenNames as names
 use Rattle.boogie_types.specs.Naming.{NamingPlace}
-use Rattle.boogie_types.specs.ProcedureFaults as procedures
+use Rattle.boogie_types.specs.Ties.ProcedureFaults as procedures
 
 -- the fault is that on the entry
 abbrev pub is_entry : TypeFault → Bool

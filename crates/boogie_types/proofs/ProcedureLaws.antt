@@ -7,15 +7,15 @@ use Rattle.typed_tree.specs.declared.fault.TypeFault.TheVariants as fault
 use Rattle.typed_tree.specs.Scope.{Scope, requires_scope, body_scope}
 use Rattle.typed_tree.specs.TypedTree.{TypedSpecification}
 use Rattle.boogie_types.specs.Meanings.{variable_info}
-use Rattle.boogie_types.specs.Numbers.{texts, IsTwiceFault}
+use Rattle.boogie_types.specs.Ties.Numbers.{texts, IsTwiceFault}
 use Rattle.boogie_types.specs.Sorted.{declared_globals, procedures_of, body_of, declared_locals, variable_names, labels_if_any, modified_in}
 use Rattle.boogie_types.specs.BrokenNames.{IsMisnamedIn, IsProcedureMisnamed, unknown_modified, constant_modified, in_body}
-use Rattle.boogie_types.specs.NamingFaults.{IsProcedureFault}
+use Rattle.boogie_types.specs.Ties.NamingFaults.{IsProcedureFault}
 use Rattle.boogie_types.specs.Resolved.{named_specifications}
-use Rattle.boogie_types.specs.Modified.{AreModifiedWrong, unknown_name, constant_name, AreModifiedFault}
-use Rattle.boogie_types.specs.Specifications.{specifications_in, AreSpecificationsFault}
-use Rattle.boogie_types.specs.Bodies.{place_among, first_place, IsBodyFault}
-use Rattle.boogie_types.specs.ProcedureFaults.{IsProcedureBroken, second_variable, second_label, misnamed, IsProcedureRefused}
+use Rattle.boogie_types.specs.Ties.Modified.{AreModifiedWrong, unknown_name, constant_name, AreModifiedFault}
+use Rattle.boogie_types.specs.Ties.Specifications.{specifications_in, AreSpecificationsFault}
+use Rattle.boogie_types.specs.Ties.Bodies.{place_among, first_place, IsBodyFault}
+use Rattle.boogie_types.specs.Ties.ProcedureFaults.{IsProcedureBroken, second_variable, second_label, misnamed, IsProcedureRefused}
 use Rattle.boogie_types.proofs.FaultLaws.{or_memory_to}
 use Rattle.boogie_types.proofs.SpecificationLaws.{before_of, after_of, specifications_are, fault_of_specifications}
 

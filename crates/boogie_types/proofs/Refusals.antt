@@ -15,14 +15,14 @@ use Rattle.typed_tree.specs.declared.fault.TypeFault.{TypeFault}
 use Rattle.typed_tree.specs.declared.fault.TypeFault.TheVariants as fault
 use Rattle.typed_tree.specs.TypedTree.{TypedProgram}
 use Rattle.typed_tree.specs.Scope.{Scope, axiom_scope}
-use Rattle.typing_rules.specs.BrokenTyping.{IsProgramBroken, IsTypingFault}
+use Rattle.typed_tree.specs.TypingRules.BrokenTyping.{IsProgramBroken, IsTypingFault}
 use Rattle.boogie_types.specs.BrokenNames as broken
 use Rattle.boogie_types.specs.BrokenNames.{one_of, IsSecond, IsRuleBroken, in_typing}
-use Rattle.boogie_types.specs.DeclarationFaults.{IsImplementationBroken, no_procedure, other_body, other_variables, AreImplementationsBroken, AreProceduresRefused, IsRefused}
-use Rattle.boogie_types.specs.NamingFaults.{OrMemory, IsExpressionFault, AreExpressionsFault}
-use Rattle.boogie_types.specs.Numbers.{IsTwiceFault}
-use Rattle.boogie_types.specs.ProcedureFaults.{IsProcedureBroken, second_variable, second_label, misnamed, IsProcedureRefused}
-use Rattle.boogie_types.specs.Referred.{expressions_by, procedures_by}
+use Rattle.boogie_types.specs.Ties.DeclarationFaults.{IsImplementationBroken, no_procedure, other_body, other_variables, AreImplementationsBroken, AreProceduresRefused, IsRefused}
+use Rattle.boogie_types.specs.Ties.NamingFaults.{OrMemory, IsExpressionFault, AreExpressionsFault}
+use Rattle.boogie_types.specs.Ties.Numbers.{IsTwiceFault}
+use Rattle.boogie_types.specs.Ties.ProcedureFaults.{IsProcedureBroken, second_variable, second_label, misnamed, IsProcedureRefused}
+use Rattle.boogie_types.specs.Ties.Referred.{expressions_by, procedures_by}
 use Rattle.boogie_types.specs.Resolved.{named_program}
 use Rattle.boogie_types.specs.Sorted.{declared_globals, axioms_of, procedures_of, implementations_of}
 use Rattle.boogie_types.proofs.FaultLaws.{or_memory_to}

@@ -10,14 +10,14 @@ use Rattle.boogie_tree.specs.Tree.{Procedure, ProcedureBody, Declaration}
 use Rattle.typed_tree.specs.declared.fault.TypeFault.{TypeFault}
 use Rattle.typed_tree.specs.declared.fault.TypeFault.TheVariants as fault
 use Rattle.typed_tree.specs.TypedTree.{TypedProgram}
-use Rattle.typing_rules.specs.Rules.{meets, keeps_typing}
-use Rattle.typing_rules.specs.Shape.{has_shape}
-use Rattle.typing_rules.specs.ValidProgram.{has_entry, is_typed}
-use Rattle.typing_rules.proofs.BrokenLaws.{program_refuted}
+use Rattle.typed_tree.specs.TypingRules.Rules.{meets, keeps_typing}
+use Rattle.typed_tree.specs.TypingRules.Shape.{has_shape}
+use Rattle.typed_tree.specs.TypingRules.ValidProgram.{has_entry, is_typed}
+use Rattle.typed_tree.proofs.TypingRules.BrokenLaws.{program_refuted}
 use Rattle.boogie_types.specs.BrokenNames.{right, HasNoEntry, unknown_entry, no_body, IsTypeFault}
-use Rattle.boogie_types.specs.DeclarationFaults.{IsRefused}
-use Rattle.boogie_types.specs.Numbers.{IsMemoryFault}
-use Rattle.boogie_types.specs.Replaced.{IsReplaced, from_entry, if_entry}
+use Rattle.boogie_types.specs.Ties.DeclarationFaults.{IsRefused}
+use Rattle.boogie_types.specs.Ties.Numbers.{IsMemoryFault}
+use Rattle.boogie_types.specs.Ties.Replaced.{IsReplaced, from_entry, if_entry}
 use Rattle.boogie_types.specs.Resolved.{are_named, are_sets, are_implementations, named_program, entry_number, if_typed, resolved_program}
 use Rattle.boogie_types.specs.Sorted.{procedures_of, first_named, body_of}
 use Rattle.boogie_types.proofs.Shape.{named_has_shape}

@@ -6,7 +6,7 @@ use Rattle.std.specs.Str.{bytes_eq}
 use Rattle.std.proofs.lemmas.Bool.{false≢true}
 use Rattle.boogie_tree.specs.declared.tree.VarInfo.{VarInfo}
 use Rattle.boogie_types.specs.Meanings.{number_from}
-use Rattle.boogie_types.specs.Numbers.{info_names, number_of_name, if_below}
+use Rattle.boogie_types.specs.Ties.Numbers.{info_names, number_of_name, if_below}
 
 -- the number of a variable is the place of its name
 number_is_position : (i : ℕ) (name : List ℕ) (vs : List VarInfo) → number_from i name vs ≡ position_from (bytes_eq name) i (info_names vs)

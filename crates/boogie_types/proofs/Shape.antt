@@ -7,9 +7,9 @@ use Rattle.boogie_tree.specs.Names.{is_name}
 use Rattle.boogie_tree.specs.Tree.{Declaration, Procedure}
 use Rattle.typed_tree.specs.TypedTree.{TypedProcedure, TypedProgram}
 use Rattle.typed_tree.specs.Scope.{axiom_scope}
-use Rattle.typing_rules.specs.Shape.{are_names, is_procedure_shaped, has_shape}
+use Rattle.typed_tree.specs.TypingRules.Shape.{are_names, is_procedure_shaped, has_shape}
 use Rattle.boogie_types.specs.Naming.{each, named}
-use Rattle.boogie_types.specs.Numbers.{text_of}
+use Rattle.boogie_types.specs.Ties.Numbers.{text_of}
 use Rattle.boogie_types.specs.Sorted.{declared_globals, global_names, axioms_of, procedures_of, body_of}
 use Rattle.boogie_types.specs.Resolved.{is_set, has_sets, are_sets, are_named, named_procedure, program_of, named_program}
 use Rattle.boogie_types.proofs.ShapeLists.{both_some, each_all, each_map, all_both, map-map}

@@ -10,7 +10,7 @@ use Rattle.boogie_tree.specs.Tree as tree
 use Rattle.typed_tree.specs.TypedTree as typed
 use Rattle.typed_tree.specs.TypedTree.{TypedExpression}
 use Rattle.typed_tree.specs.Scope.{Scope}
-use Rattle.typing_rules.specs.Shape.{is_simple, is_argument, are_arguments}
+use Rattle.typed_tree.specs.TypingRules.Shape.{is_simple, is_argument, are_arguments}
 use Rattle.boogie_types.specs.Meanings.{variable_info, column_of}
 use Rattle.boogie_types.specs.Naming as naming
 use Rattle.boogie_types.specs.Naming.{from_both, named, named_arguments, is_hidden, hidden_column, expression_span, NamingPlace}

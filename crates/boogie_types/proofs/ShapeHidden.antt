@@ -7,7 +7,7 @@ use Rattle.std.proofs.lemmas.Bool.Decides.{nat_tests}
 use Rattle.std.proofs.lemmas.Int.Digits.{all_below_base_digits_of, first_digits_of, same_from_digits_of}
 use Rattle.std.proofs.lemmas.Slice.Eq.{bytes_eq-Decides}
 use Rattle.boogie_tree.specs.Names.{is_digit, is_name, is_spelled}
-use Rattle.typing_rules.specs.Rules.{all_differ}
+use Rattle.typed_tree.specs.TypingRules.Rules.{all_differ}
 use Rattle.boogie_types.specs.Sorted.{decimal_of, hidden_locals}
 use Rattle.boogie_types.proofs.ShapeLists.{all_differ_cons}
 

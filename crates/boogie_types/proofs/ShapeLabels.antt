@@ -5,7 +5,7 @@ use Rattle.std.proofs.lemmas.Bool.{and_from, cond-true, cond-false}
 use Rattle.std.proofs.lemmas.Option.{same_Some}
 use Rattle.std.proofs.lemmas.Slice.Eq.{bytes_eq-Decides}
 use Rattle.boogie_tree.specs.declared.tree.Name.{Name}
-use Rattle.typing_rules.specs.Shape.{counts_from}
+use Rattle.typed_tree.specs.TypingRules.Shape.{counts_from}
 use Rattle.boogie_types.specs.Resolved.{is_set}
 use Rattle.boogie_types.specs.Naming.{each}
 use Rattle.boogie_types.proofs.Differ.{all_differ-head}

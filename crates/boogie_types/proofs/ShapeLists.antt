@@ -4,7 +4,7 @@ use Rattle.std.specs.List.{list_all, list_any}
 use Rattle.std.proofs.lemmas.Bool.{and_parts, and_from, or_parts, or_from, not_from_false}
 use Rattle.std.proofs.lemmas.List.Folds.{list_all-append, list_any-append}
 use Rattle.std.proofs.lemmas.Option.{same_Some}
-use Rattle.typing_rules.specs.Rules.{all_differ}
+use Rattle.typed_tree.specs.TypingRules.Rules.{all_differ}
 use Rattle.boogie_types.specs.Naming.{each, from_both}
 use Rattle.boogie_types.proofs.Differ.{all_differ-head}
 

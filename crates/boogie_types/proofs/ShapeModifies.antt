@@ -5,8 +5,8 @@ use Rattle.std.proofs.lemmas.Bool.{and_parts, and_from, or_from, or_left, or_rig
 use Rattle.boogie_tree.specs.declared.tree.Name.{Name}
 use Rattle.boogie_tree.specs.declared.tree.VarInfo.{VarInfo}
 use Rattle.boogie_tree.specs.Tree.{Declaration, Procedure}
-use Rattle.typing_rules.specs.Rules.{all_differ, meets}
-use Rattle.typing_rules.specs.Shape.{are_modified}
+use Rattle.typed_tree.specs.TypingRules.Rules.{all_differ, meets}
+use Rattle.typed_tree.specs.TypingRules.Shape.{are_modified}
 use Rattle.boogie_types.specs.Meanings.{number_from}
 use Rattle.boogie_types.specs.Naming.{each}
 use Rattle.boogie_types.specs.Sorted.{declared_globals, modified_in, firsts}

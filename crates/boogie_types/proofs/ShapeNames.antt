@@ -10,12 +10,12 @@ use Rattle.boogie_tree.specs.declared.tree.Vary.{Vary}
 use Rattle.boogie_tree.specs.declared.tree.VarInfo.{VarInfo}
 use Rattle.boogie_tree.specs.Tree.{Procedure, ProcedureBody, Declaration, Const, Global, Axiom, Declares, Implements}
 use Rattle.boogie_tree.specs.Names.{is_name, is_made, is_spelled}
-use Rattle.typing_rules.specs.Rules.{all_differ}
-use Rattle.typing_rules.specs.Shape.{are_names}
+use Rattle.typed_tree.specs.TypingRules.Rules.{all_differ}
+use Rattle.typed_tree.specs.TypingRules.Shape.{are_names}
 use Rattle.boogie_types.specs.Meanings.{variable_info}
 use Rattle.boogie_types.specs.Sorted.{declared_globals, global_names, procedures_of, implementations_of, first_named, body_of, body_locals, declared_locals, variable_names, procedure_names}
 use Rattle.boogie_types.specs.Resolved.{is_set, are_named}
-use Rattle.boogie_types.specs.Numbers.{text_of}
+use Rattle.boogie_types.specs.Ties.Numbers.{text_of}
 use Rattle.boogie_types.proofs.ShapeLists.{all_weaker, all_append_parts, all_append, all_differ-map}
 
 -- a name that is spelled as a name

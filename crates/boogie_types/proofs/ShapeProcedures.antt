@@ -9,14 +9,14 @@ use Rattle.boogie_tree.specs.declared.tree.VarInfo.{VarInfo}
 use Rattle.boogie_tree.specs.Tree.{Declaration, Procedure, ProcedureBody}
 use Rattle.typed_tree.specs.TypedTree.{TypedBlock, TypedSpecification, TypedProcedure}
 use Rattle.boogie_tree.specs.Names.{is_name, is_spelled}
-use Rattle.typing_rules.specs.Rules.{all_differ, params_of}
-use Rattle.typing_rules.specs.Shape as shape
-use Rattle.typing_rules.specs.Shape.{is_shaped_block, block_labels, counts_from, is_body_shaped, are_names, are_locals, are_modified, is_procedure_shaped}
+use Rattle.typed_tree.specs.TypingRules.Rules.{all_differ, params_of}
+use Rattle.typed_tree.specs.TypingRules.Shape as shape
+use Rattle.typed_tree.specs.TypingRules.Shape.{is_shaped_block, block_labels, counts_from, is_body_shaped, are_names, are_locals, are_modified, is_procedure_shaped}
 use Rattle.boogie_types.specs.Meanings.{variable_info}
 use Rattle.boogie_types.specs.Naming.{each, from_both, params_if_any, named_block}
 use Rattle.boogie_types.specs.Sorted as sorted
 use Rattle.boogie_types.specs.Sorted.{declared_globals, procedures_of, implementations_of, body_of, body_locals, declared_locals, variable_names, hidden_locals, labels_if_any}
-use Rattle.boogie_types.specs.Numbers.{text_of}
+use Rattle.boogie_types.specs.Ties.Numbers.{text_of}
 use Rattle.boogie_types.specs.Resolved.{is_set, has_sets, body_place, named_specifications, named_modifies, named_body, hidden_count, procedure_of, named_procedure}
 use Rattle.boogie_types.proofs.ShapeLists.{option_map_some, option_and_then_some, both_some, each_at, all_append, all_differ_append}
 use Rattle.boogie_types.proofs.ShapeNames.{is_proper, is_well_named, texts_proper, texts_differ, spelled_names, local_texts, declared_proper}

@@ -10,8 +10,8 @@ use Rattle.boogie_tree.specs.declared.tree.VarInfo.{VarInfo}
 use Rattle.boogie_tree.specs.Tree as tree
 use Rattle.typed_tree.specs.TypedTree as typed
 use Rattle.typed_tree.specs.TypedTree.{TypedExpression, TypedGuard, TypedInvariant, TypedStatement, TypedBlock, TypedProcedure}
-use Rattle.typing_rules.specs.Shape as shape
-use Rattle.typing_rules.specs.Shape.{is_shaped, is_shaped_block, statement_labels, block_labels, are_arguments}
+use Rattle.typed_tree.specs.TypingRules.Shape as shape
+use Rattle.typed_tree.specs.TypingRules.Shape.{is_shaped, is_shaped_block, statement_labels, block_labels, are_arguments}
 use Rattle.boogie_types.specs.Meanings.{variable_info}
 use Rattle.boogie_types.specs.Sorted as sorted
 use Rattle.boogie_types.specs.Sorted.{labels_in}

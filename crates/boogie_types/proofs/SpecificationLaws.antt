@@ -12,14 +12,14 @@ use Rattle.typed_tree.specs.declared.fault.TypeFault.{TypeFault}
 use Rattle.typed_tree.specs.Scope.{Scope, requires_scope, body_scope}
 use Rattle.typed_tree.specs.TypedTree as typed
 use Rattle.typed_tree.specs.TypedTree.{TypedSpecification}
-use Rattle.boogie_types.specs.Making.{made}
+use Rattle.boogie_types.specs.Ties.Making.{made}
 use Rattle.boogie_types.specs.Meanings.{variable_info}
 use Rattle.boogie_types.specs.Naming.{from_both, named_invariant}
 use Rattle.boogie_types.specs.Sorted.{declared_globals, declared_locals}
 use Rattle.boogie_types.specs.Resolved.{named_specifications}
 use Rattle.boogie_types.specs.BrokenNames.{IsProcedureMisnamed, required, ensured}
-use Rattle.boogie_types.specs.NamingFaults.{IsExpressionFault, IsProcedureFault}
-use Rattle.boogie_types.specs.Specifications.{specifications_in, AreSpecificationsUnknown, in_requires, in_ensures, AreSpecificationsFault}
+use Rattle.boogie_types.specs.Ties.NamingFaults.{IsExpressionFault, IsProcedureFault}
+use Rattle.boogie_types.specs.Ties.Specifications.{specifications_in, AreSpecificationsUnknown, in_requires, in_ensures, AreSpecificationsFault}
 use Rattle.boogie_types.proofs.FaultLaws.{or_memory_to}
 use Rattle.boogie_types.proofs.ExcludedLists.{no_member, member_cases}
 

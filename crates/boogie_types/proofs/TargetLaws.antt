@@ -7,9 +7,9 @@ use Rattle.typed_tree.specs.declared.fault.TypeFault.{TypeFault}
 use Rattle.typed_tree.specs.declared.fault.TypeFault.TheVariants as fault
 use Rattle.boogie_types.specs.Naming.{columns_of, targets_of}
 use Rattle.boogie_types.specs.Resolved.{is_set}
-use Rattle.boogie_types.specs.Numbers.{IsTwiceFault}
+use Rattle.boogie_types.specs.Ties.Numbers.{IsTwiceFault}
 use Rattle.boogie_types.specs.BrokenNames.{IsTargetWrong, second_target}
-use Rattle.boogie_types.specs.NamingFaults.{IsTargetsFault}
+use Rattle.boogie_types.specs.Ties.NamingFaults.{IsTargetsFault}
 
 -- one name, or none, is a set
 pub few_are_set : (xs : List Name) → length xs < 2 → is_set xs ≡ true

@@ -7,7 +7,7 @@ use Rattle.boogie_tree.specs.declared.tree.Vary.{Vary}
 use Rattle.boogie_tree.specs.declared.tree.VarInfo.{VarInfo}
 use Rattle.boogie_tree.specs.Tree.{Procedure, ProcedureBody}
 use Rattle.boogie_types.specs.Meanings.{variable_info}
-use Rattle.boogie_types.specs.Numbers.{info_names, texts}
+use Rattle.boogie_types.specs.Ties.Numbers.{info_names, texts}
 use Rattle.boogie_types.specs.Sorted.{body_locals, declared_locals, variable_names}
 use Rattle.boogie_types.proofs.ShapeNames.{local_texts}
 

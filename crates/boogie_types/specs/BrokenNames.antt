@@ -10,8 +10,8 @@ use Rattle.typed_tree.specs.declared.fault.TypeFault.{TypeFault}
 use Rattle.typed_tree.specs.declared.fault.TypeFault.TheVariants as fault
 use Rattle.typed_tree.specs.TypedTree.{TypedProgram}
 use Rattle.typed_tree.specs.Scope.{Scope, axiom_scope, requires_scope, body_scope}
-use Rattle.typing_rules.specs.Rules.{keeps_typing}
-use Rattle.typing_rules.specs.BrokenTyping.{IsProgramBroken}
+use Rattle.typed_tree.specs.TypingRules.Rules.{keeps_typing}
+use Rattle.typed_tree.specs.TypingRules.BrokenTyping.{IsProgramBroken}
 use Rattle.boogie_types.specs.Meanings.{column_of, number_from, variable_info}
 use Rattle.boogie_types.specs.Naming.{NamingPlace, label_number, levels, procedure_number, in_loop, label_of}
 use Rattle.boogie_types.specs.Sorted.{declared_globals, global_names, axioms_of, procedures_of, implementations_of, first_named, body_of, declared_locals, variable_names, labels_if_any, modified_in}

@@ -3,16 +3,4 @@ pub mod Naming
 pub mod Sorted
 pub mod Resolved
 pub mod BrokenNames
-pub mod Numbers
-pub mod Referred
-pub mod NamingFaults
-pub mod Places
-pub mod PlaceViews
-pub mod Making
-pub mod ProcedureFaults
-pub mod Bodies
-pub mod Specifications
-pub mod Modified
-pub mod DeclaredView
-pub mod DeclarationFaults
-pub mod Replaced
+pub mod Ties

@@ -14,7 +14,7 @@ use Rattle.boogie_tree.specs.declared.tree.Column.TheVariants as columns
 use Rattle.typed_tree.specs.TypedTree as typed
 use Rattle.typed_tree.specs.TypedTree.{TypedExpression, TypedGuard, TypedInvariant, TypedStatement, TypedBlock}
 use Rattle.typed_tree.specs.Scope.{Scope}
-use Rattle.typing_rules.specs.Rules.{all_differ}
+use Rattle.typed_tree.specs.TypingRules.Rules.{all_differ}
 use Rattle.boogie_types.specs.Meanings.{column_of}
 
 -- each of them, where there is one for each

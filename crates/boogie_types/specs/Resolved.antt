@@ -16,8 +16,8 @@ use Rattle.boogie_types.specs.Sorted.{declared_globals, global_names, axioms_of,
 use Rattle.boogie_types.specs.Naming.{each, from_both, named, named_invariant, named_block, hidden_in_block, NamingPlace}
 use Rattle.boogie_tree.specs.declared.tree.VarInfo.{VarInfo}
 use Rattle.boogie_tree.specs.Names.{is_name}
-use Rattle.typing_rules.specs.Rules.{all_differ, meets}
-use Rattle.typing_rules.specs.ValidProgram.{is_typed}
+use Rattle.typed_tree.specs.TypingRules.Rules.{all_differ, meets}
+use Rattle.typed_tree.specs.TypingRules.ValidProgram.{is_typed}
 
 -- no name stands twice
 abbrev pub is_set : List Name → Bool

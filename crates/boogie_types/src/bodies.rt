@@ -5,9 +5,9 @@ ghost use Rattle.std.specs.Option.{option_map};
 ghost use Rattle.boogie_tree.specs.View as view;
 ghost use Rattle.typed_tree.specs.TypedView as typed;
 ghost use Rattle.boogie_types.specs.Naming.{named_block, hidden_in_block};
-ghost use Rattle.boogie_types.specs.NamingFaults.{IsBlockFault};
-ghost use Rattle.boogie_types.specs.PlaceViews.{place_outside};
-ghost use Rattle.boogie_types.specs.Bodies.{body_by, body_at, hidden_at, IsBodyFault};
+ghost use Rattle.boogie_types.specs.Ties.NamingFaults.{IsBlockFault};
+ghost use Rattle.boogie_types.specs.Ties.PlaceViews.{place_outside};
+ghost use Rattle.boogie_types.specs.Ties.Bodies.{body_by, body_at, hidden_at, IsBodyFault};
 
 use crate::places::Placed;
 use crate::statements::{Walk, block};

@@ -8,11 +8,11 @@ ghost use Rattle.typed_tree.specs.TypedView as typed;
 ghost use Rattle.typed_tree.specs.Scope.{seen};
 ghost use Rattle.boogie_types.specs.Naming as naming;
 ghost use Rattle.boogie_types.specs.Naming.{named_call, named_arguments, hidden_arguments, put_aside, hidden_in, params_if_any, procedure_number};
-ghost use Rattle.boogie_types.specs.Referred.{procedures_by, parameter_by};
-ghost use Rattle.boogie_types.specs.PlaceViews.{place_at, place_outside};
-ghost use Rattle.boogie_types.specs.Making.{made};
-ghost use Rattle.boogie_types.specs.Numbers.{IsMemoryFault};
-ghost use Rattle.boogie_types.specs.NamingFaults.{IsExpressionFault, AreExpressionsFault, IsCallFault};
+ghost use Rattle.boogie_types.specs.Ties.Referred.{procedures_by, parameter_by};
+ghost use Rattle.boogie_types.specs.Ties.PlaceViews.{place_at, place_outside};
+ghost use Rattle.boogie_types.specs.Ties.Making.{made};
+ghost use Rattle.boogie_types.specs.Ties.Numbers.{IsMemoryFault};
+ghost use Rattle.boogie_types.specs.Ties.NamingFaults.{IsExpressionFault, AreExpressionsFault, IsCallFault};
 
 use crate::expressions::named;
 use crate::lists::targets;

@@ -2,9 +2,9 @@
 
 ghost use Rattle.std.specs.Prelude.{◌≡◌, map};
 ghost use Rattle.boogie_tree.specs.View as view;
-ghost use Rattle.boogie_types.specs.Numbers.{info_names};
-ghost use Rattle.boogie_types.specs.Places.{procedure_texts};
-ghost use Rattle.boogie_types.specs.Referred.{procedures_by};
+ghost use Rattle.boogie_types.specs.Ties.Numbers.{info_names};
+ghost use Rattle.boogie_types.specs.Ties.Places.{procedure_texts};
+ghost use Rattle.boogie_types.specs.Ties.Referred.{procedures_by};
 ghost use Rattle.boogie_types.specs.Sorted.{declared_globals};
 
 use crate::numbered::Numbered;

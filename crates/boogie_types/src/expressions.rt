@@ -5,7 +5,7 @@ ghost use Rattle.boogie_tree.specs.View as view;
 ghost use Rattle.typed_tree.specs.TypedView as typed;
 ghost use Rattle.typed_tree.specs.Scope.{seen};
 ghost use Rattle.boogie_types.specs.Naming as naming;
-ghost use Rattle.boogie_types.specs.NamingFaults.{IsExpressionFault};
+ghost use Rattle.boogie_types.specs.Ties.NamingFaults.{IsExpressionFault};
 
 use crate::names::Names;
 use boogie_tree::{Expr, ExprKind};

@@ -2,10 +2,10 @@
 
 ghost use Rattle.std.specs.Prelude.{◌≡◌, ◌++◌, true, OnOk, IfOk, IfErr};
 ghost use Rattle.boogie_tree.specs.View as view;
-ghost use Rattle.boogie_types.specs.Numbers.{named_by, texts, IsTwiceFault};
+ghost use Rattle.boogie_types.specs.Ties.Numbers.{named_by, texts, IsTwiceFault};
 ghost use Rattle.boogie_types.specs.Sorted.{labels_in, block_labels, labels_if_any};
 ghost use Rattle.boogie_types.specs.Resolved.{is_set};
-ghost use Rattle.boogie_types.specs.Bodies.{body_by};
+ghost use Rattle.boogie_types.specs.Ties.Bodies.{body_by};
 
 use crate::numbered::Numbered;
 use boogie_tree::{Body, Name, Stmt};

@@ -23,8 +23,8 @@ mod statements;
 mod variables;
 
 pub use resolving::resolve;
+pub use typed_tree::typing_rules::{Typed, typed};
 pub use typed_tree::{
     Affine, AffineFault, Column, Op, Scope, Span, TExpr, TExprKind, TGuard, TInv, TProc, TSpec,
     TStmt, Text, Ty, TypeFault, VarInfo, affine,
 };
-pub use typing_rules::{Typed, typed};

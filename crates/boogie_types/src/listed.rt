@@ -1,8 +1,8 @@
 //! Procedures, or implementations, with the numbers of their names.
 
 ghost use Rattle.std.specs.Prelude.{◌≡◌};
-ghost use Rattle.boogie_types.specs.Places.{procedure_texts};
-ghost use Rattle.boogie_types.specs.Referred.{procedures_by};
+ghost use Rattle.boogie_types.specs.Ties.Places.{procedure_texts};
+ghost use Rattle.boogie_types.specs.Ties.Referred.{procedures_by};
 
 use crate::numbered::Numbered;
 use crate::sorted::names_of;
@@ -24,7 +24,7 @@ impl<'a> Listed<'a> {
     ghost use Rattle.std.specs.Option.{option_map};
     ghost use Rattle.std.specs.Str.{bytes_eq};
     ghost use Rattle.boogie_tree.specs.View as view;
-    ghost use Rattle.boogie_types.specs.Numbers.{IsTwiceFault};
+    ghost use Rattle.boogie_types.specs.Ties.Numbers.{IsTwiceFault};
     ghost use Rattle.boogie_types.specs.Resolved.{is_set};
     ghost use Rattle.boogie_types.specs.Sorted as sorted;
 

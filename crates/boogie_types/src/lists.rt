@@ -1,14 +1,14 @@
 //! Lists of expressions, targets and conditions with their names replaced.
 
 ghost use Rattle.std.specs.Prelude.{◌≡◌, true, Some, map, IfOk, IfErr, IsOk};
-ghost use Rattle.boogie_types.specs.Numbers.{named_by, IsTwiceFault};
+ghost use Rattle.boogie_types.specs.Ties.Numbers.{named_by, IsTwiceFault};
 ghost use Rattle.boogie_types.specs.Resolved.{is_set};
 ghost use Rattle.boogie_tree.specs.View as view;
 ghost use Rattle.typed_tree.specs.TypedView as typed;
 ghost use Rattle.typed_tree.specs.Scope.{seen};
 ghost use Rattle.boogie_types.specs.Naming.{each, columns_of, targets_of, named_guard, named_invariant};
 ghost use Rattle.boogie_types.specs.Naming as naming;
-ghost use Rattle.boogie_types.specs.NamingFaults.{IsExpressionFault, AreExpressionsFault, IsTargetsFault, IsGuardFault, IsInvariantsFault};
+ghost use Rattle.boogie_types.specs.Ties.NamingFaults.{IsExpressionFault, AreExpressionsFault, IsTargetsFault, IsGuardFault, IsInvariantsFault};
 
 use crate::expressions::named;
 use crate::names::Names;

@@ -6,8 +6,8 @@ ghost use Rattle.boogie_tree.specs.View as view;
 ghost use Rattle.boogie_types.specs.Sorted as lists;
 ghost use Rattle.boogie_types.specs.Sorted.{modified_in};
 ghost use Rattle.boogie_types.specs.Resolved.{unless_constant, modified_number};
-ghost use Rattle.boogie_types.specs.Modified.{modified_numbers, AreModifiedFault};
-ghost use Rattle.boogie_types.specs.Making.{made};
+ghost use Rattle.boogie_types.specs.Ties.Modified.{modified_numbers, AreModifiedFault};
+ghost use Rattle.boogie_types.specs.Ties.Making.{made};
 
 use crate::declared::Declared;
 use boogie_tree::{Name, Spec, VarInfo};

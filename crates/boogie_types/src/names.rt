@@ -4,7 +4,7 @@ ghost use Rattle.std.specs.Prelude.{◌≡◌, map, take, length, IfOk};
 ghost use Rattle.typed_tree.specs.Scope.{seen};
 ghost use Rattle.boogie_types.specs.Meanings.{number_from, column_of, if_visible};
 ghost use Rattle.std.specs.Prelude.{option_and_then};
-ghost use Rattle.boogie_types.specs.Numbers.{info_names, if_below};
+ghost use Rattle.boogie_types.specs.Ties.Numbers.{info_names, if_below};
 
 use crate::numbered::Numbered;
 use typed_tree::{Column, Scope};

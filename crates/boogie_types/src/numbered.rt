@@ -1,7 +1,7 @@
 ghost use Rattle.std.specs.Prelude.{◌≡◌, true, IfOk, IfErr};
 ghost use Rattle.typed_tree.specs.declared.fault.TypeFault.TheVariants as TypeFault;
 ghost use Rattle.boogie_types.specs.Resolved.{is_set};
-ghost use Rattle.boogie_types.specs.Numbers.{named_by, texts, number_of_name, IsTwiceFault};
+ghost use Rattle.boogie_types.specs.Ties.Numbers.{named_by, texts, number_of_name, IsTwiceFault};
 
 use boogie_tree::Name;
 use std::alloc::Global;
@@ -30,7 +30,7 @@ pub(crate) struct Numbered<'a> {
 
 impl<'a> Model for Numbered<'a> {
     ghost use Rattle.std.specs.Prelude.{ℕ, List};
-    ghost use Rattle.boogie_types.specs.Numbers.{named_by, texts, IsNumbered};
+    ghost use Rattle.boogie_types.specs.Ties.Numbers.{named_by, texts, IsNumbered};
 
     ghost Value = { List (List ℕ) };
 

@@ -2,10 +2,10 @@
 
 ghost use Rattle.std.specs.Prelude.{◌≡◌, Some, IfOk, IfErr};
 ghost use Rattle.std.specs.List.{position_from};
-ghost use Rattle.boogie_types.specs.Referred.{procedures_by};
+ghost use Rattle.boogie_types.specs.Ties.Referred.{procedures_by};
 ghost use Rattle.boogie_types.specs.Naming.{each, is_before_loop};
-ghost use Rattle.boogie_types.specs.Numbers.{number_of_name, IsLabelsFault, IsMemoryFault};
-ghost use Rattle.boogie_types.specs.Places.{label_by, loops_by, procedure_texts};
+ghost use Rattle.boogie_types.specs.Ties.Numbers.{number_of_name, IsLabelsFault, IsMemoryFault};
+ghost use Rattle.boogie_types.specs.Ties.Places.{label_by, loops_by, procedure_texts};
 
 use crate::names::Names;
 use crate::numbered::{Numbered, number_of};

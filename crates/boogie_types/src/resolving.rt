@@ -6,14 +6,14 @@ ghost use Rattle.std.specs.Str.{bytes_eq};
 ghost use Rattle.boogie_tree.specs.Names.{is_name};
 ghost use Rattle.boogie_tree.specs.View as view;
 ghost use Rattle.typed_tree.specs.declared.fault.TypeFault.TheVariants as faults;
-ghost use Rattle.typing_rules.specs.Rules.{keeps_typing};
-ghost use Rattle.typing_rules.specs.TypedParts.{typed_program};
-ghost use Rattle.typing_rules.specs.ValidProgram.{is_typed};
+ghost use Rattle.typed_tree.specs.TypingRules.Rules.{keeps_typing};
+ghost use Rattle.typed_tree.specs.TypingRules.TypedParts.{typed_program};
+ghost use Rattle.typed_tree.specs.TypingRules.ValidProgram.{is_typed};
 ghost use Rattle.boogie_types.specs.BrokenNames.{IsTypeFault};
-ghost use Rattle.boogie_types.specs.DeclarationFaults.{IsRefused};
-ghost use Rattle.boogie_types.specs.Numbers.{IsMemoryFault};
-ghost use Rattle.boogie_types.specs.Referred.{procedures_by};
-ghost use Rattle.boogie_types.specs.Replaced.{program_by, IsReplaced, from_entry, if_entry};
+ghost use Rattle.boogie_types.specs.Ties.DeclarationFaults.{IsRefused};
+ghost use Rattle.boogie_types.specs.Ties.Numbers.{IsMemoryFault};
+ghost use Rattle.boogie_types.specs.Ties.Referred.{procedures_by};
+ghost use Rattle.boogie_types.specs.Ties.Replaced.{program_by, IsReplaced, from_entry, if_entry};
 ghost use Rattle.boogie_types.specs.Resolved.{is_set, are_named, resolved_program};
 ghost use Rattle.boogie_types.specs.Sorted.{procedures_of};
 
@@ -22,7 +22,7 @@ use crate::listed::Listed;
 use boogie_tree::{Decl, Program};
 use std::alloc::Global;
 use typed_tree::TypeFault;
-use typing_rules::{Typed, check_typing, numbers_fit};
+use typed_tree::typing_rules::{Typed, check_typing, numbers_fit};
 
 /// The declarations with their names replaced, where they keep the typing rules.
 fn checked<'a>(alloc: Global, decls: &'a [Decl], procs: &Listed<'a>) -> Result<Replaced, TypeFault>

@@ -2,8 +2,8 @@
 
 ghost use Rattle.std.specs.Prelude.{◌≡◌, map, IfOk};
 ghost use Rattle.boogie_tree.specs.View as view;
-ghost use Rattle.boogie_types.specs.Numbers.{named_by};
-ghost use Rattle.boogie_types.specs.Referred.{expressions_by, procedures_by};
+ghost use Rattle.boogie_types.specs.Ties.Numbers.{named_by};
+ghost use Rattle.boogie_types.specs.Ties.Referred.{expressions_by, procedures_by};
 ghost use Rattle.boogie_types.specs.Meanings.{variable_info};
 ghost use Rattle.boogie_types.specs.Sorted.{declared_globals, global_names, axioms_of, procedures_of, implementations_of};
 

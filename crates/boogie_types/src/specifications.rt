@@ -4,8 +4,8 @@ ghost use Rattle.std.specs.Prelude.{◌≡◌, Some, [], ◌∷◌, map, OnOk, I
 ghost use Rattle.boogie_tree.specs.View as view;
 ghost use Rattle.typed_tree.specs.TypedView as typed;
 ghost use Rattle.typed_tree.specs.Scope.{seen};
-ghost use Rattle.boogie_types.specs.Making.{made};
-ghost use Rattle.boogie_types.specs.Specifications.{specifications_in, AreSpecificationsFault};
+ghost use Rattle.boogie_types.specs.Ties.Making.{made};
+ghost use Rattle.boogie_types.specs.Ties.Specifications.{specifications_in, AreSpecificationsFault};
 
 use crate::lists::invariant;
 use crate::names::Names;

@@ -8,11 +8,11 @@ ghost use Rattle.boogie_tree.specs.View as view;
 ghost use Rattle.typed_tree.specs.TypedTree as out_tree;
 ghost use Rattle.typed_tree.specs.TypedView as typed;
 ghost use Rattle.boogie_types.specs.Naming.{named_statement, named_block, named_call, alone, hidden_in, hidden_in_block, label_of, levels_in};
-ghost use Rattle.boogie_types.specs.Places.{label_by, loops_by};
-ghost use Rattle.boogie_types.specs.PlaceViews.{place_at, place_outside};
-ghost use Rattle.boogie_types.specs.Making.{made};
-ghost use Rattle.boogie_types.specs.NamingFaults.{IsStatementFault, IsBlockFault, IsLeavingFault, IsCallFault};
-ghost use Rattle.boogie_types.specs.Numbers.{IsMemoryFault};
+ghost use Rattle.boogie_types.specs.Ties.Places.{label_by, loops_by};
+ghost use Rattle.boogie_types.specs.Ties.PlaceViews.{place_at, place_outside};
+ghost use Rattle.boogie_types.specs.Ties.Making.{made};
+ghost use Rattle.boogie_types.specs.Ties.NamingFaults.{IsStatementFault, IsBlockFault, IsLeavingFault, IsCallFault};
+ghost use Rattle.boogie_types.specs.Ties.Numbers.{IsMemoryFault};
 
 use crate::calls::call;
 use crate::expressions::named;

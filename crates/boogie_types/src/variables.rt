@@ -3,10 +3,10 @@
 ghost use Rattle.std.specs.Prelude.{◌≡◌, ◌++◌, true, map, OnOk, IfOk, IfErr};
 ghost use Rattle.boogie_tree.specs.View as view;
 ghost use Rattle.boogie_types.specs.Meanings.{variable_info};
-ghost use Rattle.boogie_types.specs.Numbers.{named_by, texts, IsTwiceFault};
+ghost use Rattle.boogie_types.specs.Ties.Numbers.{named_by, texts, IsTwiceFault};
 ghost use Rattle.boogie_types.specs.Sorted.{body_locals, declared_locals, variable_names};
 ghost use Rattle.boogie_types.specs.Resolved.{is_set};
-ghost use Rattle.boogie_types.specs.Bodies.{body_by};
+ghost use Rattle.boogie_types.specs.Ties.Bodies.{body_by};
 
 use crate::numbered::Numbered;
 use crate::sorted::info;

@@ -21,7 +21,7 @@ use Rattle.cond_jumps.specs.Environments.{Environment}
 use Rattle.cond_jumps.specs.Paths.{constant_of, arithmetic, linear}
 use Rattle.cond_jumps.specs.LongView.{long}
 use Rattle.cond_jumps.specs.CodeView.{combination, is_combination, is_division, IsDivisorFound}
-use Rattle.cond_jumps.specs.SumView.{sum_of, rows_fit, IsSumOf, IsBoxedAnswer, part, IsPartAnswer}
+use Rattle.cond_jumps.specs.Ties.SumView.{sum_of, rows_fit, IsSumOf, IsBoxedAnswer, part, IsPartAnswer}
 
 -- ---- rows that fit
 

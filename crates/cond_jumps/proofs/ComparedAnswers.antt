@@ -13,7 +13,7 @@ use Rattle.cond_jumps.specs.Comparisons.{compared}
 use Rattle.cond_jumps.specs.CompareView.{IsListAnswer, compared_list}
 use Rattle.cond_jumps.specs.Forms.{Linear, Linears, after}
 use Rattle.cond_jumps.specs.ListView.{IsPlanAnswer}
-use Rattle.cond_jumps.specs.SumView.{sum_of, rows_fit, IsSumOf}
+use Rattle.cond_jumps.specs.Ties.SumView.{sum_of, rows_fit, IsSumOf}
 use Rattle.cond_jumps.proofs.AnswerLemmas.{and_first, first_too_big, second_too_big}
 
 -- the rows of a sum that was made fit

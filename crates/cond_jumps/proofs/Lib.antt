@@ -30,3 +30,4 @@ mod TotalTurns
 mod SumFaults
 mod ComparedAnswers
 pub mod AssignAnswers
+pub mod FreeProducts

@@ -17,8 +17,8 @@ use Rattle.cond_jumps.specs.Conjunctions.{Conjunction, row_fits, list_fits}
 use Rattle.cond_jumps.specs.Conjs.{conjunctions}
 use Rattle.cond_jumps.specs.Forms.{Linear}
 use Rattle.cond_jumps.specs.LongView.{long}
-use Rattle.cond_jumps.specs.Totals.{terms_of}
-use Rattle.cond_jumps.specs.SumView.{sum_of, rows_fit}
+use Rattle.cond_jumps.specs.Ties.Totals.{terms_of}
+use Rattle.cond_jumps.specs.Ties.SumView.{sum_of, rows_fit}
 use Rattle.cond_jumps.specs.CompareView.{IsListAnswer, compared_row, compared_list}
 use Rattle.cond_jumps.proofs.AnswerLemmas.{both_fit, second_too_big}
 

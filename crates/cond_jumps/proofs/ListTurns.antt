@@ -4,7 +4,7 @@ use Rattle.std.proofs.lemmas.List.{drop_more}
 use Rattle.cond_jumps.specs.declared.conj.Conj.{Conj}
 use Rattle.cond_jumps.specs.Conjs.{conjunction, conjunctions}
 use Rattle.cond_jumps.specs.Conjunctions.{Conjunction, joined}
-use Rattle.cond_jumps.specs.JoinView.{each_moved}
+use Rattle.cond_jumps.specs.Ties.JoinView.{each_moved}
 use Rattle.cond_jumps.specs.Moving.{moved}
 use Rattle.cond_jumps.proofs.MovingLemmas.{map_append}
 

@@ -12,7 +12,7 @@ use Rattle.lin_rows.proofs.RowLemmas.{summed_of_terms}
 use Rattle.lin_rows.specs.Sums.{is_zero, led_by, added_at, summed, row_of, SumsFit}
 use Rattle.cond_jumps.specs.Forms.{Linear, Linears, linear_number, column, linear_negated, after, linear_over, linear_plus, linear_minus, linear_times, quotient_rows, over_quotient, linear_divided, remaining}
 use Rattle.cond_jumps.specs.Moving.{moved_column, moved_terms, moved_row, moved_sum, IsEvenSum}
-use Rattle.cond_jumps.specs.Totals.{AreTotals}
+use Rattle.cond_jumps.specs.Ties.Totals.{AreTotals}
 use Rattle.cond_jumps.proofs.TotalLemmas.{totals_sums_fit}
 
 -- ---- columns

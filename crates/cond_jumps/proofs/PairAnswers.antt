@@ -21,9 +21,9 @@ use Rattle.cond_jumps.specs.Conjunctions.{Plan, Just, Then, With, listed_plan, l
 use Rattle.cond_jumps.specs.Environments.{Environment}
 use Rattle.cond_jumps.specs.Forms.{Linears}
 use Rattle.cond_jumps.specs.ListView.{IsPlanList, IsPlanAnswer, sums_plan, shape_of, plan_of, other_plan_of, asked}
-use Rattle.cond_jumps.specs.PairView.{ArePlanLists, ArePlanAnswers, AreWidths, IsEitherWide, AreWidthAnswers}
+use Rattle.cond_jumps.specs.Ties.PairView.{ArePlanLists, ArePlanAnswers, AreWidths, IsEitherWide, AreWidthAnswers}
 use Rattle.cond_jumps.specs.Paths.{linear, is_truth, paths}
-use Rattle.cond_jumps.specs.WidthView.{IsWidth, IsWidthAnswer}
+use Rattle.cond_jumps.specs.Ties.WidthView.{IsWidth, IsWidthAnswer}
 use Rattle.cond_jumps.proofs.AnswerLemmas.{and_first, and_second}
 use Rattle.cond_jumps.proofs.PlanAnswers.{shape_plan}
 use Rattle.cond_jumps.proofs.WidthAnswers.{first_wide, second_wide}

@@ -15,10 +15,10 @@ use Rattle.cond_jumps.specs.Conjunctions.{Conjunction, Jumps, joined, each_with,
 use Rattle.cond_jumps.specs.Comparisons.{operation_plan}
 use Rattle.cond_jumps.specs.Conjs.{conjunction, conjunctions}
 use Rattle.cond_jumps.specs.Forms.{Linears}
-use Rattle.cond_jumps.specs.JoinView.{each_moved, helpers_before, each_behind}
+use Rattle.cond_jumps.specs.Ties.JoinView.{each_moved, helpers_before, each_behind}
 use Rattle.cond_jumps.specs.Moving.{moved_terms, moved_row, moved, IsEven, IsEvenPlan}
 use Rattle.cond_jumps.specs.ListView.{IsPlanList, sums_plan, shape_of, plan_of}
-use Rattle.cond_jumps.specs.PairView.{crossed}
+use Rattle.cond_jumps.specs.Ties.PairView.{crossed}
 use Rattle.cond_jumps.proofs.MovingLemmas.{map_append}
 use Rattle.cond_jumps.proofs.EvenLemmas.{listed_even}
 

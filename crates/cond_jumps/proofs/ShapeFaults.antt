@@ -19,7 +19,7 @@ use Rattle.cond_jumps.specs.Environments.{Environment}
 use Rattle.cond_jumps.specs.Conjunctions.{Plan, Just, Then, With, listed_plan, list_fits, is_long, is_wide, all_fit}
 use Rattle.cond_jumps.specs.ListView.{asked, sums_plan, shape_of, plan_of, other_plan_of}
 use Rattle.cond_jumps.specs.Moving.{IsEvenPlan}
-use Rattle.cond_jumps.specs.PairView.{ArePlanAnswers, AreWidthAnswers, IsUnfit, IsEitherWide, crossed}
+use Rattle.cond_jumps.specs.Ties.PairView.{ArePlanAnswers, AreWidthAnswers, IsUnfit, IsEitherWide, crossed}
 use Rattle.cond_jumps.specs.Paths.{linear, is_truth, paths}
 use Rattle.cond_jumps.proofs.AnswerLemmas.{and_first, and_second}
 use Rattle.cond_jumps.proofs.PairAnswers.{lists_shape_answer, widths_shape_answer, widths_handed_on}

@@ -19,7 +19,7 @@ use Rattle.cond_jumps.specs.Environments.{Environment}
 use Rattle.cond_jumps.specs.Forms.{Linear, Linears, linear_number, linear_negated, quotient_rows}
 use Rattle.cond_jumps.specs.Frames.{linear_at}
 use Rattle.cond_jumps.specs.Paths.{arithmetic, constant_of, constant_operation, linear}
-use Rattle.cond_jumps.specs.SumView.{sum_of, rows_fit, IsSumOf, IsBoxedAnswer}
+use Rattle.cond_jumps.specs.Ties.SumView.{sum_of, rows_fit, IsSumOf, IsBoxedAnswer}
 use Rattle.cond_jumps.proofs.AnswerLemmas.{handed_on, first_refused, first_too_big}
 
 -- what stands for a column has no rows, and so stands wherever helpers are numbered from

@@ -17,7 +17,7 @@ use Rattle.typed_tree.specs.AffineForm.{fits}
 use Rattle.cond_jumps.specs.Conjunctions.{row_fits}
 use Rattle.std.proofs.Math.Seq.{drop-cons}
 use Rattle.cond_jumps.specs.declared.totals.Term.{Term}
-use Rattle.cond_jumps.specs.Totals.{terms_of, lesser, least, TotalsFit, AreTotals}
+use Rattle.cond_jumps.specs.Ties.Totals.{terms_of, lesser, least, TotalsFit, AreTotals}
 use Rattle.cond_jumps.proofs.MeaningLemmas.{all_append}
 
 -- ---- ascending terms

@@ -4,7 +4,7 @@ use Rattle.std.proofs.lemmas.Int.{ints}
 use Rattle.std.proofs.lemmas.List.{drop_all}
 use Rattle.math_facts.specs.Terms.{coefficient}
 use Rattle.cond_jumps.specs.declared.totals.Term.{Term}
-use Rattle.cond_jumps.specs.Totals.{terms_of}
+use Rattle.cond_jumps.specs.Ties.Totals.{terms_of}
 
 pub total_begun : (sum all : ℤ) → sum ≡ pos 0 → sum +ℤ all ≡ all
 total_begun sum all e = omega (arith, ints)

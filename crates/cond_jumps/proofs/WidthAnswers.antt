@@ -5,9 +5,9 @@ use Rattle.std.proofs.lemmas.Bool.Decides.{nat_tests}
 use Rattle.cond_jumps.specs.declared.fault.JumpFault.{JumpFault}
 use Rattle.cond_jumps.specs.declared.fault.JumpFault.TheVariants.{TooWide, TooBig}
 use Rattle.cond_jumps.specs.Conjunctions.{Conjunction, joined, each_with, Plan, Then, With, listed_plan, is_long, is_wide}
-use Rattle.cond_jumps.specs.JoinView.{each_moved}
+use Rattle.cond_jumps.specs.Ties.JoinView.{each_moved}
 use Rattle.cond_jumps.specs.Moving.{moved, IsEvenPlan}
-use Rattle.cond_jumps.specs.WidthView.{IsWidth, IsWidthAnswer, IsLimited}
+use Rattle.cond_jumps.specs.Ties.WidthView.{IsWidth, IsWidthAnswer, IsLimited}
 use Rattle.cond_jumps.proofs.EvenLemmas.{listed_even}
 use Rattle.cond_jumps.proofs.PlanAnswers.{each_moved_is}
 

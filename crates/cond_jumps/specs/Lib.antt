@@ -12,11 +12,8 @@ pub mod Lists
 pub mod Digits
 pub mod LongView
 pub mod Conjs
-pub mod Totals
-pub mod SumView
 pub mod CodeView
 pub mod CompareView
-pub mod JoinView
 pub mod ListView
-pub mod WidthView
-pub mod PairView
+pub mod FreeProducts
+pub mod Ties

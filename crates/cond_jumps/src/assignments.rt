@@ -9,7 +9,7 @@ ghost use Rattle.cond_jumps.specs.Frames.{frame_environment};
 ghost use Rattle.cond_jumps.specs.ListView.{IsPlanList, IsPlanAnswer};
 ghost use Rattle.cond_jumps.specs.Lists.{assign_plan, assign_width, assign_list};
 ghost use Rattle.cond_jumps.specs.Paths.{is_truth, paths, linear, gets, assigns};
-ghost use Rattle.cond_jumps.specs.WidthView.{IsWidthAnswer};
+ghost use Rattle.cond_jumps.specs.Ties.WidthView.{IsWidthAnswer};
 
 use crate::comparisons::{always, named};
 use crate::conj::Conj;

@@ -10,8 +10,8 @@ ghost use Rattle.cond_jumps.specs.Comparisons.{always, truth_of_column};
 ghost use Rattle.cond_jumps.specs.Conjs.{conjunctions};
 ghost use Rattle.cond_jumps.specs.CompareView.{IsListAnswer, compared_row, compared_list};
 ghost use Rattle.cond_jumps.specs.LongView.{long};
-ghost use Rattle.cond_jumps.specs.SumView.{sum_of, rows_fit};
-ghost use Rattle.cond_jumps.specs.Totals.{terms_of};
+ghost use Rattle.cond_jumps.specs.Ties.SumView.{sum_of, rows_fit};
+ghost use Rattle.cond_jumps.specs.Ties.Totals.{terms_of};
 
 use crate::conj::Conj;
 use crate::long::Long;

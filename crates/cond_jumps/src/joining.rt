@@ -4,7 +4,7 @@ ghost use Rattle.std.specs.Prelude.{◌≡◌, IfOk, OnOk, ◌∷◌, ◌++◌, 
 ghost use Rattle.lin_rows.specs.Rows.{LinearRow};
 ghost use Rattle.cond_jumps.specs.Conjunctions.{joined};
 ghost use Rattle.cond_jumps.specs.Conjs.{conjunction, conjunctions};
-ghost use Rattle.cond_jumps.specs.JoinView.{each_moved, helpers_before, each_behind};
+ghost use Rattle.cond_jumps.specs.Ties.JoinView.{each_moved, helpers_before, each_behind};
 ghost use Rattle.cond_jumps.specs.Moving.{moved_column, moved_terms, moved_row, moved};
 
 use crate::conj::Conj;

@@ -10,6 +10,7 @@ mod conditions;
 mod conj;
 mod equations;
 mod fault;
+pub mod free_products;
 mod joining;
 pub mod laws;
 mod linear;

@@ -10,7 +10,7 @@ ghost use Rattle.cond_jumps.specs.Frames.{frame_environment, column_place_in, li
 ghost use Rattle.cond_jumps.specs.Forms.{linear_number};
 ghost use Rattle.cond_jumps.specs.LongView.{long};
 ghost use Rattle.cond_jumps.specs.Paths.{constant_of, constant_operation, linear};
-ghost use Rattle.cond_jumps.specs.SumView.{sum_of, IsSumAnswer, IsBoxedAnswer, IsPartAnswer};
+ghost use Rattle.cond_jumps.specs.Ties.SumView.{sum_of, IsSumAnswer, IsBoxedAnswer, IsPartAnswer};
 
 use crate::columns::place;
 use crate::long::Long;

@@ -7,7 +7,7 @@ ghost use Rattle.cond_jumps.specs.Conjs.{conjunctions};
 ghost use Rattle.cond_jumps.specs.Comparisons.{compared, equal_sums, literal, truth_of_column};
 ghost use Rattle.cond_jumps.specs.Frames.{frame_environment, column_place_in, plan_at};
 ghost use Rattle.cond_jumps.specs.ListView.{IsPlanAnswer, asked, row_by, sums_plan};
-ghost use Rattle.cond_jumps.specs.PairView.{ArePlanLists, ArePlanAnswers};
+ghost use Rattle.cond_jumps.specs.Ties.PairView.{ArePlanLists, ArePlanAnswers};
 ghost use Rattle.cond_jumps.specs.Paths.{linear, is_truth, paths};
 ghost use Rattle.typed_tree.specs.Typing.{is_some_of};
 

@@ -3,9 +3,9 @@
 ghost use Rattle.std.specs.Prelude.{◌≡◌, ◌+◌, ◌++◌, Bool, IfOk};
 ghost use Rattle.cond_jumps.specs.Conjunctions.{Plan, Then, With};
 ghost use Rattle.cond_jumps.specs.Conjs.{conjunctions};
-ghost use Rattle.cond_jumps.specs.JoinView.{each_moved, helpers_before, helpers_by};
+ghost use Rattle.cond_jumps.specs.Ties.JoinView.{each_moved, helpers_before, helpers_by};
 ghost use Rattle.cond_jumps.specs.ListView.{asked};
-ghost use Rattle.cond_jumps.specs.PairView.{ArePlanLists, crossed};
+ghost use Rattle.cond_jumps.specs.Ties.PairView.{ArePlanLists, crossed};
 ghost use Rattle.cond_jumps.specs.Moving.{IsEvenPlan};
 
 use crate::conj::Conj;

@@ -7,8 +7,8 @@ ghost use Rattle.lin_rows.specs.Sums.{row_of};
 ghost use Rattle.cond_jumps.specs.Conjunctions.{row_fits};
 ghost use Rattle.cond_jumps.specs.Forms.{linear_number, column, linear_over, quotient_rows};
 ghost use Rattle.cond_jumps.specs.LongView.{long};
-ghost use Rattle.cond_jumps.specs.SumView.{sum_of, rows_fit, IsDivideAnswer};
-ghost use Rattle.cond_jumps.specs.Totals.{terms_of};
+ghost use Rattle.cond_jumps.specs.Ties.SumView.{sum_of, rows_fit, IsDivideAnswer};
+ghost use Rattle.cond_jumps.specs.Ties.Totals.{terms_of};
 
 use crate::long::Long;
 use crate::refusal::Refusal;

@@ -5,7 +5,7 @@ ghost use Rattle.math_facts.specs.Terms.{coefficient};
 ghost use Rattle.lin_rows.specs.Sums.{row_of};
 ghost use Rattle.cond_jumps.specs.Conjunctions.{row_fits};
 ghost use Rattle.cond_jumps.specs.LongView.{long};
-ghost use Rattle.cond_jumps.specs.Totals.{terms_of, lesser, least, TotalsFit, AreTotals};
+ghost use Rattle.cond_jumps.specs.Ties.Totals.{terms_of, lesser, least, TotalsFit, AreTotals};
 
 use crate::long::Long;
 use crate::refusal::Refusal;

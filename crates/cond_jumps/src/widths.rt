@@ -7,10 +7,10 @@ ghost use Rattle.cond_jumps.specs.Comparisons.{literal};
 ghost use Rattle.cond_jumps.specs.Forms.{Linears};
 ghost use Rattle.cond_jumps.specs.Frames.{frame_environment, column_place_in, plan_at};
 ghost use Rattle.cond_jumps.specs.ListView.{asked, sums_plan};
-ghost use Rattle.cond_jumps.specs.PairView.{crossed, AreWidths, AreWidthAnswers};
+ghost use Rattle.cond_jumps.specs.Ties.PairView.{crossed, AreWidths, AreWidthAnswers};
 ghost use Rattle.cond_jumps.specs.Moving.{IsEvenPlan};
 ghost use Rattle.cond_jumps.specs.Paths.{paths};
-ghost use Rattle.cond_jumps.specs.WidthView.{IsWidth, IsWidthAnswer, IsLimited};
+ghost use Rattle.cond_jumps.specs.Ties.WidthView.{IsWidth, IsWidthAnswer, IsLimited};
 
 use crate::columns::place;
 use crate::fault::JumpFault;

@@ -1,11 +1,11 @@
 //! The program `explain`.
 #![tactic(auto)]
 
-use command_words::{given_words, grow_stack};
 use explain_top::run;
 use outer_io::{FileShelf, StdSink};
 use std::alloc::AllocError;
 use std::process::ExitCode;
+use text_reports::command_words::{given_words, grow_stack};
 
 /// The status where memory ran out.
 const NO_MEMORY: u8 = 6;

@@ -7,8 +7,8 @@ use Rattle.outer_io.specs.Texts.{text_named}
 use Rattle.typed_tree.specs.TypedTree.{TypedProgram}
 use Rattle.letter_acts.specs.Invariant.{Graph}
 use Rattle.proof_form.specs.Annotations.{Content}
-use Rattle.coarse_lines.specs.CoarseLetters.{coarse_letters, first_wrong, first_missing}
-use Rattle.coarse_lines.proofs.ToldLaws.{letters_compared}
+use Rattle.proof_names.specs.CoarseLines.CoarseLetters.{coarse_letters, first_wrong, first_missing}
+use Rattle.proof_names.proofs.CoarseLines.ToldLaws.{letters_compared}
 use Rattle.proof_check.specs.Proves.{Proves}
 use Rattle.text_reports.specs.ReportTexts.{Answer}
 use Rattle.text_reports.specs.ReportCases.{second_limit, IsTypedText, RefusesTyped, RefusesLowering, refused, of_typed, unlowered, of_lowered, ReportsSecond, ReportsAnnotation, wrong_line, missing_line, accepted, rejected}

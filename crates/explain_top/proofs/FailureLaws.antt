@@ -2,7 +2,7 @@
 use Rattle.std.proofs.Common.{◌≡◌, ℕ, ◌≤◌, Bool, List, length, Some, inl, inr, ◌⊎◌, ap, refl, sym, ◌∙◌, subst, arith}
 use Rattle.std.proofs.lemmas.Option.{same_Some}
 use Rattle.boogie_tree.specs.Tree.{Declaration}
-use Rattle.boogie_parse.proofs.WholeText.{one_program}
+use Rattle.boogie_parse.proofs.Rules.WholeText.{one_program}
 use Rattle.typed_tree.specs.TypedTree.{TypedProgram}
 use Rattle.boogie_run.specs.declared.types.AssertId.{AssertId}
 use Rattle.boogie_run.specs.Runs.{Fails}
@@ -10,7 +10,7 @@ use Rattle.lowered_graph.specs.Lowered.{lowered}
 use Rattle.trace_replay.specs.FailureText.{PlainFailure}
 use Rattle.trace_replay.proofs.FailureLaws.{failure_text_injective}
 use Rattle.trace_replay.proofs.ReplayFailures.{replays_fails}
-use Rattle.run_story.specs.Story.{IsStory}
+use Rattle.explain_top.specs.RunStory.Story.{IsStory}
 use Rattle.text_reports.specs.ReportTexts.{Answer, answer, replayed_answer}
 use Rattle.text_reports.specs.ReportCases as checks
 use Rattle.text_reports.specs.ReportCases.{second_limit, IsTypedText, IsFailureText, ReportsFailure, ReportsReplay, ReportsLowered, unlowered, of_lowered, ReportsSecond}

@@ -7,3 +7,5 @@ pub mod RunLaws
 pub mod ReportUnique
 pub mod MoreLaws
 mod Statuses
+pub mod RunStory
+pub mod TraceStory

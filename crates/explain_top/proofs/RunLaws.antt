@@ -15,7 +15,7 @@ use Rattle.explain_top.specs.declared.answers.Answer.TheVariants.{Usage, OfTexts
 use Rattle.explain_top.specs.CommandLine.{Request, requested}
 use Rattle.explain_top.specs.Report.{Kind, OfFailure, OfTrace, OfProof, kind_of, Explains, ReportsExplain, Reports, explaining}
 use Rattle.explain_top.specs.Claims.{AsksFor, ProgramIsSafe, ProgramFails, TraceIsTold, Answers, TookFront}
-use Rattle.explain_top.specs.Views.{answered}
+use Rattle.explain_top.specs.Ties.Views.{answered}
 use Rattle.explain_top.proofs.FailureLaws.{told_fails}
 use Rattle.explain_top.proofs.TraceOnce.{told_leads}
 

@@ -15,8 +15,8 @@ use Rattle.boogie_run.specs.Runs.{run}
 use Rattle.trace_replay.specs.Replays.{choices_among}
 use Rattle.trace_replay.proofs.ReplayRuns.{same_choice, step_takes, run_first, refused_no_went}
 use Rattle.trace_replay.proofs.ReplayLaws.{one_assertion_replays}
-use Rattle.run_story.specs.Texts.{shortened}
-use Rattle.run_story.specs.Story.{step_lines, IsStory}
+use Rattle.explain_top.specs.RunStory.Texts.{shortened}
+use Rattle.explain_top.specs.RunStory.Story.{step_lines, IsStory}
 
 same_went : (c d : Config) → Went c ≡ Went d → c ≡ d
 same_went c d e = cc

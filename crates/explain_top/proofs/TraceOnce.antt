@@ -3,17 +3,17 @@ use Rattle.std.proofs.Common.{◌≡◌, ℕ, Bool, List, None, Some, inl, inr, 
 use Rattle.std.proofs.lemmas.Bool.{cases_order}
 use Rattle.std.proofs.lemmas.Option.{none-some, same_Some}
 use Rattle.boogie_tree.specs.Tree.{Declaration}
-use Rattle.boogie_parse.specs.GrammarLimits.{IsProgram}
-use Rattle.boogie_parse.proofs.WholeText.{one_program}
+use Rattle.boogie_parse.specs.Rules.GrammarLimits.{IsProgram}
+use Rattle.boogie_parse.proofs.Rules.WholeText.{one_program}
 use Rattle.typed_tree.specs.TypedTree.{TypedProgram}
 use Rattle.nwa_base.specs.declared.letters.Letter.{Letter}
 use Rattle.nwa_base.specs.Runs.{IsAcceptingRun}
 use Rattle.letter_acts.specs.Invariant.{Graph}
-use Rattle.trace_story.specs.TraceText.{PlainTrace}
-use Rattle.trace_story.specs.TraceFaults.{IsFirstFault}
-use Rattle.trace_story.specs.TraceStory.{letters_of, IsTraceStory}
-use Rattle.trace_story.specs.declared.traces.TraceFault.TheVariants.{Syntax, Memory}
-use Rattle.trace_story.proofs.TraceLaws.{trace_is_read, fault_is_memory}
+use Rattle.explain_top.specs.TraceStory.TraceText.{PlainTrace}
+use Rattle.explain_top.specs.TraceStory.TraceFaults.{IsFirstFault}
+use Rattle.explain_top.specs.TraceStory.TraceStory.{letters_of, IsTraceStory}
+use Rattle.explain_top.specs.declared.trace_story.traces.TraceFault.TheVariants.{Syntax, Memory}
+use Rattle.explain_top.proofs.TraceStory.TraceLaws.{trace_is_read, fault_is_memory}
 use Rattle.text_reports.specs.ReportTexts.{Answer, answer, syntax_answer}
 use Rattle.explain_top.specs.Report.{IsTraceText, ExplainsTrace, no_trace, no_letter, no_run, of_trace}
 use Rattle.explain_top.proofs.ExplainLaws.{one_is_not_zero}

@@ -4,7 +4,7 @@ use Rattle.std.specs.List.{AllZip}
 use Rattle.outer_io.specs.Texts.{text_named, GainsFront}
 use Rattle.boogie_tree.specs.Tree.{Declaration}
 use Rattle.boogie_tree.specs.Printing.{program_text}
-use Rattle.boogie_parse.specs.GrammarLimits.{IsProgram}
+use Rattle.boogie_parse.specs.Rules.GrammarLimits.{IsProgram}
 use Rattle.typed_tree.specs.TypedTree.{TypedProgram}
 use Rattle.boogie_run.specs.Runs.{Fails, IsSafe}
 use Rattle.boogie_run.specs.declared.types.AssertId.{AssertId}
@@ -12,9 +12,9 @@ use Rattle.nwa_base.specs.declared.letters.Letter.{Letter}
 use Rattle.nwa_base.specs.Runs.{IsAcceptingRun}
 use Rattle.lowered_graph.specs.Lowered.{lowered}
 use Rattle.trace_replay.specs.FailureText.{PlainFailure}
-use Rattle.run_story.specs.Story.{IsStory}
-use Rattle.trace_story.specs.TraceText.{PlainTrace}
-use Rattle.trace_story.specs.TraceStory.{IsTraceStory}
+use Rattle.explain_top.specs.RunStory.Story.{IsStory}
+use Rattle.explain_top.specs.TraceStory.TraceText.{PlainTrace}
+use Rattle.explain_top.specs.TraceStory.TraceStory.{IsTraceStory}
 use Rattle.explained_proof.specs.Laws.{DeclarationSaysMore}
 use Rattle.text_reports.specs.ReportTexts.{Answer, answer, replayed_answer}
 use Rattle.text_reports.specs.ReportCases.{IsTypedText, RefusesLowering, IsFailureText}

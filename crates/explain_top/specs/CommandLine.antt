@@ -4,7 +4,7 @@ use Rattle.clap.specs.Walk.{Row, Rule, first_of}
 use Rattle.clap.specs.Simple.{App, matches_of}
 use Rattle.clap.specs.Faults.{fault_of}
 use Rattle.clap.specs.Kinds.{Kinds}
-use Rattle.command_words.specs.Rules.{positional, option, flag, bare_command, is_given}
+use Rattle.text_reports.specs.CommandWords.Rules.{positional, option, flag, bare_command, is_given}
 
 -- PROGRAM ANSWER [--entry NAME] [--all]
 abbrev pub arguments : List Rule

@@ -1,4 +1,6 @@
 pub mod CommandLine
 pub mod Report
 pub mod Claims
-pub mod Views
+pub mod RunStory
+pub mod TraceStory
+pub mod Ties

@@ -5,7 +5,7 @@ use Rattle.outer_io.specs.Lines.{lines_of}
 use Rattle.outer_io.specs.Texts.{text_named}
 use Rattle.boogie_tree.specs.Tree.{Declaration}
 use Rattle.boogie_tree.specs.Printing.{program_text}
-use Rattle.boogie_parse.specs.GrammarLimits.{IsProgram}
+use Rattle.boogie_parse.specs.Rules.GrammarLimits.{IsProgram}
 use Rattle.typed_tree.specs.TypedTree.{TypedProgram}
 use Rattle.boogie_run.specs.declared.types.AssertId.{AssertId}
 use Rattle.nwa_base.specs.declared.letters.Letter.{Letter}
@@ -21,11 +21,11 @@ use Rattle.trace_replay.specs.FailureText.{PlainFailure}
 use Rattle.trace_replay.specs.FailureFaults.{IsFirstFault}
 use Rattle.trace_replay.specs.ReplayCauses.{StopsAt}
 use Rattle.trace_replay.specs.declared.causes.ReplayCause.{ReplayCause}
-use Rattle.run_story.specs.Story.{IsStory}
-use Rattle.trace_story.specs.TraceText.{PlainTrace, IsInBounds, trace_text}
-use Rattle.trace_story.specs.TraceFaults as traces
-use Rattle.trace_story.specs.TraceStory.{letters_of, IsTraceStory}
-use Rattle.coarse_lines.specs.CoarseLetters.{coarse_letters}
+use Rattle.explain_top.specs.RunStory.Story.{IsStory}
+use Rattle.explain_top.specs.TraceStory.TraceText.{PlainTrace, IsInBounds, trace_text}
+use Rattle.explain_top.specs.TraceStory.TraceFaults as traces
+use Rattle.explain_top.specs.TraceStory.TraceStory.{letters_of, IsTraceStory}
+use Rattle.proof_names.specs.CoarseLines.CoarseLetters.{coarse_letters}
 use Rattle.explained_proof.specs.Known.{known_of}
 use Rattle.explained_proof.specs.Explained.{explained}
 use Rattle.text_reports.specs.ReportTexts.{Answer, answer, syntax_answer, accepted_answer, failed_answer, stopped_answer}

@@ -1,7 +1,7 @@
 //! What the program answers, before it is written.
 
 ghost use Rattle.std.specs.Prelude.{◌≡◌, IfOk};
-ghost use Rattle.explain_top.specs.Views.{answered};
+ghost use Rattle.explain_top.specs.Ties.Views.{answered};
 
 use std::alloc::{AllocError, Global};
 use text_reports::TextAnswer;

@@ -6,9 +6,9 @@ ghost use Rattle.outer_io.specs.Texts.{text_named};
 ghost use Rattle.boogie_tree.specs.Tree.{Declaration};
 ghost use Rattle.boogie_tree.specs.Printing.{program_text};
 ghost use Rattle.boogie_tree.specs.View as tree;
-ghost use Rattle.boogie_parse.specs.GrammarLimits.{IsProgram};
-ghost use Rattle.typing_rules.specs.TypedParts.{typed_program};
-ghost use Rattle.coarse_lines.specs.CoarseLetters.{coarse_letters};
+ghost use Rattle.boogie_parse.specs.Rules.GrammarLimits.{IsProgram};
+ghost use Rattle.typed_tree.specs.TypingRules.TypedParts.{typed_program};
+ghost use Rattle.proof_names.specs.CoarseLines.CoarseLetters.{coarse_letters};
 ghost use Rattle.proof_names.specs.Outlines.{sketch};
 ghost use Rattle.proof_names.specs.Items.{Names};
 ghost use Rattle.proof_check.specs.Proves.{Proves};
@@ -17,24 +17,24 @@ ghost use Rattle.text_reports.specs.ReportTexts.{answer, syntax_answer};
 ghost use Rattle.text_reports.specs.ReportCases.{ReportsSecond};
 ghost use Rattle.explain_top.specs.Report.{explained_program, ExplainsAnnotation, ExplainsProof, ExplainsFailure, ExplainsTrace, OfProof, kind_of, Explains, ReportsExplain};
 
+use crate::run_story::story;
+use crate::trace_story::{ToldFault, TraceFault, read_trace, trace_story};
 use crate::words::Request;
 use boogie_parse::parse;
 use boogie_tree::{Program, print};
 use boogie_types::Typed;
-use coarse_lines::{CoarseFault, compared};
 use explained_proof::explained;
 use letter_acts::Icfg;
 use outer_io::Shelf;
 use proof_check::{Reject, RejectCause, named_proof};
 use proof_form::{Annotation, ProofFault, read_safe};
 use proof_names::Outline;
-use run_story::story;
+use proof_names::coarse_lines::{CoarseFault, compared};
 use std::alloc::{AllocError, Global};
 use text_reports::{
     Halt, PROGRAM_LIMIT, SECOND_LIMIT, TextAnswer, confirmed, graph, text_within, typed,
 };
 use trace_replay::{FailureFault, ReplayFault, read_failure};
-use trace_story::{ToldFault, TraceFault, read_trace, trace_story};
 
 /// What the lines of an annotation name, where it proves the graph and lines of these coarse letters are those that its triples ask for; else none.
 fn accepted(

@@ -4,7 +4,9 @@
 mod answers;
 mod explaining;
 mod reporting;
+pub mod run_story;
 mod running;
+pub mod trace_story;
 mod words;
 
 pub use running::{

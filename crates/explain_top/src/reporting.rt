@@ -9,7 +9,7 @@ ghost use Rattle.explain_top.specs.CommandLine.{requested};
 ghost use Rattle.explain_top.specs.CommandLine as line;
 ghost use Rattle.explain_top.specs.Report.{OfFailure, OfTrace, OfProof, kind_of, Reports};
 ghost use Rattle.explain_top.specs.Claims.{ProgramIsSafe, ProgramFails, TraceIsTold};
-ghost use Rattle.explain_top.specs.Views.{answered, Asks};
+ghost use Rattle.explain_top.specs.Ties.Views.{answered, Asks};
 
 use crate::answers::Answer;
 use crate::explaining::explaining;

@@ -6,11 +6,11 @@ ghost use Rattle.clap.specs.Matches.{found_of};
 ghost use Rattle.clap.specs.Walk.{rows_of};
 ghost use Rattle.clap.specs.Simple.{app_of};
 ghost use Rattle.explain_top.specs.CommandLine as line;
-ghost use Rattle.explain_top.specs.Views.{asked};
+ghost use Rattle.explain_top.specs.Ties.Views.{asked};
 
 use clap::{ArgMatches, Command};
-use command_words::{bare_command, flag, is_set, matched, option, positional, value};
 use std::alloc::{AllocError, Global};
+use text_reports::command_words::{bare_command, flag, is_set, matched, option, positional, value};
 
 /// What the words ask for.
 #[derive(Clone, Copy)]

@@ -9,22 +9,22 @@ use Rattle.boogie_tree.specs.declared.tree.Op.TheVariants as ops
 use Rattle.boogie_tree.specs.Tree.{Expression}
 use Rattle.letter_acts.specs.Frames.{IsFrame}
 use Rattle.triple_rows.specs.Predicates.{Formula}
-use Rattle.built_expressions.specs.Building.{operation, old_of}
-use Rattle.built_expressions.specs.Members.{Conjuncts, joined, clauses_of, is_always}
-use Rattle.built_expressions.specs.Laws.{all_hold}
-use Rattle.built_expressions.proofs.TruthLaws.{joined_holds, clauses_hold}
-use Rattle.row_expressions.specs.declared.scopes.Position.{Position}
-use Rattle.row_expressions.specs.declared.scopes.Position.TheVariants.{Requires}
-use Rattle.row_expressions.specs.Scopes.{ClauseScope, is_requires, is_of_entry, may_change}
-use Rattle.row_expressions.specs.Worth.{row_holds}
-use Rattle.fact_expressions.specs.Facts.{Facts}
-use Rattle.fact_expressions.specs.Disjunctions.{either_of_all}
-use Rattle.fact_expressions.specs.Conclusions.{facts_said}
-use Rattle.fact_expressions.specs.Worth.{formula_holds, facts_hold, begins_with_or, IsAt}
-use Rattle.fact_expressions.proofs.Truths.{any_map}
-use Rattle.fact_expressions.proofs.FactWorth.{same_rows}
-use Rattle.fact_expressions.proofs.OrderWorth.{either_holds}
-use Rattle.fact_expressions.proofs.SaidWorth.{cases_pass, either_cases, alternatives_conclude, premises_implied}
+use Rattle.explained_proof.specs.BuiltExpressions.Building.{operation, old_of}
+use Rattle.explained_proof.specs.BuiltExpressions.Members.{Conjuncts, joined, clauses_of, is_always}
+use Rattle.explained_proof.specs.BuiltExpressions.Laws.{all_hold}
+use Rattle.explained_proof.proofs.BuiltExpressions.TruthLaws.{joined_holds, clauses_hold}
+use Rattle.explained_proof.specs.declared.row_expressions.scopes.Position.{Position}
+use Rattle.explained_proof.specs.declared.row_expressions.scopes.Position.TheVariants.{Requires}
+use Rattle.explained_proof.specs.RowExpressions.Scopes.{ClauseScope, is_requires, is_of_entry, may_change}
+use Rattle.explained_proof.specs.RowExpressions.Worth.{row_holds}
+use Rattle.explained_proof.specs.FactExpressions.Facts.{Facts}
+use Rattle.explained_proof.specs.FactExpressions.Disjunctions.{either_of_all}
+use Rattle.explained_proof.specs.FactExpressions.Conclusions.{facts_said}
+use Rattle.explained_proof.specs.FactExpressions.Worth.{formula_holds, facts_hold, begins_with_or, IsAt}
+use Rattle.explained_proof.proofs.FactExpressions.Truths.{any_map}
+use Rattle.explained_proof.proofs.FactExpressions.FactWorth.{same_rows}
+use Rattle.explained_proof.proofs.FactExpressions.OrderWorth.{either_holds}
+use Rattle.explained_proof.proofs.FactExpressions.SaidWorth.{cases_pass, either_cases, alternatives_conclude, premises_implied}
 use Rattle.explained_proof.specs.declared.clauses.Entered.{Entered}
 use Rattle.explained_proof.specs.Known.{Known, known_at}
 use Rattle.explained_proof.specs.Clauses.{KnownProcedure, scope, known_at_one, row_names_changing, names_changing, premise_said, under_facts, holding_for}

@@ -11,13 +11,13 @@ use Rattle.boogie_tree.specs.declared.tree.Column.TheVariants.{Global, Old, Loca
 use Rattle.boogie_tree.specs.declared.tree.VarInfo.{VarInfo}
 use Rattle.boogie_tree.specs.Tree.{Expression}
 use Rattle.letter_acts.specs.Frames.{Columns, IsFrame, added, globals_from, old_columns, locals_from}
-use Rattle.row_expressions.specs.declared.scopes.Position.{Position}
-use Rattle.row_expressions.specs.declared.scopes.Position.TheVariants.{Requires, Ensures, Body}
-use Rattle.row_expressions.specs.declared.scopes.Voice.{Voice}
-use Rattle.row_expressions.specs.declared.scopes.Voice.TheVariants.{Plain}
-use Rattle.row_expressions.specs.Scopes.{ClauseScope, sees_at, sees, is_seen_local, hides, voice, spoken, column_said, said, has_truth, is_truth, changes, may_change, number_spoken, column_number, number_said, entry_named, entry_column}
-use Rattle.row_expressions.specs.Options.{passes}
-use Rattle.row_expressions.specs.Worth.{HasColumns}
+use Rattle.explained_proof.specs.declared.row_expressions.scopes.Position.{Position}
+use Rattle.explained_proof.specs.declared.row_expressions.scopes.Position.TheVariants.{Requires, Ensures, Body}
+use Rattle.explained_proof.specs.declared.row_expressions.scopes.Voice.{Voice}
+use Rattle.explained_proof.specs.declared.row_expressions.scopes.Voice.TheVariants.{Plain}
+use Rattle.explained_proof.specs.RowExpressions.Scopes.{ClauseScope, sees_at, sees, is_seen_local, hides, voice, spoken, column_said, said, has_truth, is_truth, changes, may_change, number_spoken, column_number, number_said, entry_named, entry_column}
+use Rattle.explained_proof.specs.RowExpressions.Options.{passes}
+use Rattle.explained_proof.specs.RowExpressions.Worth.{HasColumns}
 use Rattle.explained_proof.specs.Clauses.{KnownProcedure, scope}
 use Rattle.explained_proof.specs.Worth.{IsEntryOf}
 

@@ -14,10 +14,10 @@ use Rattle.proof_names.specs.declared.outlines.NamedNode.{NamedNode}
 use Rattle.proof_names.specs.Items.{pred_at}
 use Rattle.proof_names.specs.Outlines.{OutlineNode, node}
 use Rattle.proof_names.specs.Predicates.{pred_named}
-use Rattle.fact_expressions.specs.Facts.{Facts, gathered, facts_from}
+use Rattle.explained_proof.specs.FactExpressions.Facts.{Facts, gathered, facts_from}
 use Rattle.explained_proof.specs.declared.tightening.Tightened.{Tightened}
 use Rattle.explained_proof.specs.Known.{Known, formula_in, predicate, is_false, nodes_from}
-use Rattle.explained_proof.specs.Views.{tightened, line_said, predicate_said}
+use Rattle.explained_proof.specs.Ties.Views.{tightened, line_said, predicate_said}
 
 -- ---- predicates
 

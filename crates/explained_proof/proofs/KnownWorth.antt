@@ -21,11 +21,11 @@ use Rattle.proof_form.specs.Annotations.{Content, is_annotation}
 use Rattle.proof_names.specs.Items.{pred_at}
 use Rattle.proof_names.specs.Predicates.{pred_named}
 use Rattle.proof_names.proofs.SpelledLaws.{pred_spells}
-use Rattle.fact_expressions.specs.Facts.{no_facts}
-use Rattle.fact_expressions.specs.Worth.{formula_holds, AreCases}
-use Rattle.fact_expressions.proofs.TreeWorth.{formula_yes, yes_formula}
-use Rattle.fact_expressions.proofs.FactWorth.{facts_are_theirs, facts_from_cases}
-use Rattle.fact_expressions.proofs.SaidWorth.{cases_pass, is_above, facts_from_deep}
+use Rattle.explained_proof.specs.FactExpressions.Facts.{no_facts}
+use Rattle.explained_proof.specs.FactExpressions.Worth.{formula_holds, AreCases}
+use Rattle.explained_proof.proofs.FactExpressions.TreeWorth.{formula_yes, yes_formula}
+use Rattle.explained_proof.proofs.FactExpressions.FactWorth.{facts_are_theirs, facts_from_cases}
+use Rattle.explained_proof.proofs.FactExpressions.SaidWorth.{cases_pass, is_above, facts_from_deep}
 use Rattle.explained_proof.specs.Tightened.{tight, all_tight}
 use Rattle.explained_proof.specs.Known.{Known, formula_in, predicate, preds_in, known_of, known_at}
 use Rattle.explained_proof.specs.Worth.{TightHolds, is_known, LineHolds, PredicateHolds, NodesAreKnown, IsShallow, KnownIsShallow}

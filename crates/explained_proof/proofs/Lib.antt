@@ -10,3 +10,8 @@ pub mod KnownWorth
 pub mod FrameWorth
 pub mod ClauseWorth
 pub mod ReadingWorth
+pub mod BuiltExpressions
+pub mod RowExpressions
+pub mod FactExpressions
+pub mod KnownRuns
+pub mod ExplainedRuns

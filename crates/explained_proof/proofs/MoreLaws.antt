@@ -7,7 +7,7 @@ use Rattle.std.proofs.lemmas.List.{append-nil}
 use Rattle.boogie_tree.specs.Apart.{nowhere}
 use Rattle.boogie_tree.specs.Tree.{Expression, Statement, If, While, Block, Empty, Then, ProcedureBody, Procedure, Declaration, Const, Global, Axiom, Declares, Implements}
 use Rattle.typed_tree.specs.TypedTree.{TypedBlock, TypedProcedure}
-use Rattle.boogie_points.specs.Actions.{free_conditions}
+use Rattle.boogie_run.specs.BoogiePoints.Actions.{free_conditions}
 use Rattle.explained_proof.specs.Clauses.{KnownProcedure}
 use Rattle.explained_proof.specs.Statements.{Setting, Left, left, asserted, before, condition, held, assertions_behind, is_left, behind, first_branch, second_branch, loop_body, explained_block, explained_statement}
 use Rattle.explained_proof.specs.Explained.{Told, setting, place_of, known_procedure, body_from, explained_body, is_entered, implemented, contract, contracted, declared_with, declared, is_of, at_listed, on_listed, explained_declaration}

@@ -3,10 +3,10 @@ use Rattle.std.proofs.Common.{◌≡◌, ℕ, zero, suc, ◌+◌, ◌<◌, ◌�
 use Rattle.std.specs.Prelude.{slice_get}
 use Rattle.std.proofs.lemmas.Option.{same_Some}
 use Rattle.typed_tree.specs.TypedTree.{TypedBlock, TypedProcedure, TypedProgram}
-use Rattle.typing_rules.specs.Counts.{free_requires, all_ensures, block_points, body_points, all_places, places}
-use Rattle.boogie_points.specs.Actions.{free_conditions}
-use Rattle.boogie_points.proofs.ConditionLaws.{free_requires_counted}
-use Rattle.explained_proof.specs.Fitting.{HasPlaces}
+use Rattle.typed_tree.specs.TypingRules.Counts.{free_requires, all_ensures, block_points, body_points, all_places, places}
+use Rattle.boogie_run.specs.BoogiePoints.Actions.{free_conditions}
+use Rattle.boogie_run.proofs.BoogiePoints.ConditionLaws.{free_requires_counted}
+use Rattle.explained_proof.specs.Ties.Fitting.{HasPlaces}
 use Rattle.explained_proof.specs.Statements.{left}
 
 points_within : (procs ps : List TypedProcedure) (n : ℕ) (q : TypedProcedure) → slice_get ps n ≡ Some q → body_points procs q.specs q.body ≤ all_places procs ps

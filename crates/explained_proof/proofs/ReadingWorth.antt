@@ -11,14 +11,14 @@ use Rattle.boogie_tree.specs.declared.tree.Column.TheVariants.{Global, Old, Loca
 use Rattle.boogie_tree.specs.declared.tree.VarInfo.{VarInfo}
 use Rattle.boogie_tree.specs.Tree.{Expression}
 use Rattle.letter_acts.specs.Frames.{Columns, IsFrame, added, globals_from, old_columns, locals_from}
-use Rattle.built_expressions.specs.Building.{variable, number}
+use Rattle.explained_proof.specs.BuiltExpressions.Building.{variable, number}
 use Rattle.typed_tree.specs.Values.{State, column_value, at_entry, truth, value_is_zero, same}
-use Rattle.row_expressions.specs.declared.scopes.Position.{Position}
-use Rattle.row_expressions.specs.declared.scopes.Voice.{Voice}
-use Rattle.row_expressions.specs.declared.scopes.Voice.TheVariants.{Plain, InOld}
-use Rattle.row_expressions.specs.Options.{passes}
-use Rattle.row_expressions.specs.Scopes.{ClauseScope, sees, stays, hides, is_requires, voice_of_old, voice, spoken, column_said, is_boolean, has_truth, number_text, number_spoken, column_number}
-use Rattle.row_expressions.specs.Worth.{HasColumns}
+use Rattle.explained_proof.specs.declared.row_expressions.scopes.Position.{Position}
+use Rattle.explained_proof.specs.declared.row_expressions.scopes.Voice.{Voice}
+use Rattle.explained_proof.specs.declared.row_expressions.scopes.Voice.TheVariants.{Plain, InOld}
+use Rattle.explained_proof.specs.RowExpressions.Options.{passes}
+use Rattle.explained_proof.specs.RowExpressions.Scopes.{ClauseScope, sees, stays, hides, is_requires, voice_of_old, voice, spoken, column_said, is_boolean, has_truth, number_text, number_spoken, column_number}
+use Rattle.explained_proof.specs.RowExpressions.Worth.{HasColumns}
 use Rattle.explained_proof.specs.Clauses.{KnownProcedure, scope}
 use Rattle.explained_proof.specs.Worth.{IsEntryOf, IsState}
 use Rattle.explained_proof.specs.Readings.{tree_value, tree_holds, ValuesAreReadings, LooksUp, column_in, frame_point, HasTruths, ConstantsStay, ClausesAreTrue}

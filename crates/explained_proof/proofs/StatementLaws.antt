@@ -10,8 +10,8 @@ use Rattle.boogie_tree.specs.View as seen
 use Rattle.typed_tree.specs.declared.types.TStmt.{TStmt}
 use Rattle.typed_tree.specs.TypedTree.{TypedStatement, Assert, Assume, Havoc, Assign, Call, If, While, Break, Goto, Return, Label, TypedBlock, Empty, Then, TypedProcedure}
 use Rattle.typed_tree.specs.TypedView as typed
-use Rattle.typing_rules.specs.Counts.{points}
-use Rattle.explained_proof.specs.Fitting.{HasPlaces, StatementFits}
+use Rattle.typed_tree.specs.TypingRules.Counts.{points}
+use Rattle.explained_proof.specs.Ties.Fitting.{HasPlaces, StatementFits}
 use Rattle.explained_proof.specs.Statements.{Left, left, past_in, past_hidden_in, is_assignment, then_of, otherwise_of, body_of, in_first, before, Setting, asserted, assertions_behind, behind, is_left, left_labels, flag, explained_block, explained_statement, first_branch, second_branch}
 
 -- ---- places

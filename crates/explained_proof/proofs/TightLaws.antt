@@ -5,8 +5,8 @@ use Rattle.triple_rows.specs.declared.predicates.PredNode.{PredNode}
 use Rattle.triple_rows.specs.declared.predicates.PredNode.TheVariants.{Truth, Atom, And, Or}
 use Rattle.triple_rows.specs.Predicates.{Formula, Formulas, truth, atom, and_of, or_of, one_more, SpellsPredicate, bundled, formulas, first_formula, formula_of}
 use Rattle.lin_rows.specs.Tightening.{tightened}
-use Rattle.fact_expressions.specs.Trees.{part_count, spells}
-use Rattle.fact_expressions.proofs.TreeLaws.{predicate_spells}
+use Rattle.explained_proof.specs.FactExpressions.Trees.{part_count, spells}
+use Rattle.explained_proof.proofs.FactExpressions.TreeLaws.{predicate_spells}
 use Rattle.explained_proof.specs.Tightened.{tight, all_tight, tight_node}
 
 parts_tight : (n : PredNode) → part_count (tight_node n) ≡ part_count n

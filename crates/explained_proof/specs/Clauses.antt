@@ -6,14 +6,14 @@ use Rattle.boogie_tree.specs.declared.tree.VarInfo.{VarInfo}
 use Rattle.boogie_tree.specs.declared.tree.Op.TheVariants as ops
 use Rattle.boogie_tree.specs.Tree.{Expression}
 use Rattle.lin_rows.specs.Rows.{LinearRow}
-use Rattle.built_expressions.specs.Building.{operation, old_of}
-use Rattle.built_expressions.specs.Members.{Conjuncts, joined, clauses_of, is_always}
-use Rattle.row_expressions.specs.declared.scopes.Position.{Position}
-use Rattle.row_expressions.specs.declared.scopes.Position.TheVariants.{Requires}
-use Rattle.row_expressions.specs.Scopes.{ClauseScope, may_change}
-use Rattle.fact_expressions.specs.Facts.{Facts}
-use Rattle.fact_expressions.specs.Disjunctions.{either_of_all}
-use Rattle.fact_expressions.specs.Conclusions.{facts_said, alternatives_said}
+use Rattle.explained_proof.specs.BuiltExpressions.Building.{operation, old_of}
+use Rattle.explained_proof.specs.BuiltExpressions.Members.{Conjuncts, joined, clauses_of, is_always}
+use Rattle.explained_proof.specs.declared.row_expressions.scopes.Position.{Position}
+use Rattle.explained_proof.specs.declared.row_expressions.scopes.Position.TheVariants.{Requires}
+use Rattle.explained_proof.specs.RowExpressions.Scopes.{ClauseScope, may_change}
+use Rattle.explained_proof.specs.FactExpressions.Facts.{Facts}
+use Rattle.explained_proof.specs.FactExpressions.Disjunctions.{either_of_all}
+use Rattle.explained_proof.specs.FactExpressions.Conclusions.{facts_said, alternatives_said}
 use Rattle.explained_proof.specs.declared.clauses.Entered.{Entered}
 use Rattle.explained_proof.specs.Known.{Known, known_at}
 

@@ -8,8 +8,8 @@ use Rattle.boogie_tree.specs.Tree.{Specification, Requires, Ensures, Block, Proc
 use Rattle.letter_acts.specs.Acts.{frame_of}
 use Rattle.letter_acts.specs.Invariant.{Graph, alphabet_of}
 use Rattle.typed_tree.specs.TypedTree.{TypedBlock, TypedProcedure, TypedProgram}
-use Rattle.boogie_points.specs.Actions.{free_conditions}
-use Rattle.row_expressions.specs.declared.scopes.Position.TheVariants as positions
+use Rattle.boogie_run.specs.BoogiePoints.Actions.{free_conditions}
+use Rattle.explained_proof.specs.declared.row_expressions.scopes.Position.TheVariants as positions
 use Rattle.explained_proof.specs.declared.clauses.Entered.{Entered}
 use Rattle.explained_proof.specs.Known.{Known}
 use Rattle.explained_proof.specs.Clauses.{KnownProcedure, required, holding}

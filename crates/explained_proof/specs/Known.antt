@@ -7,7 +7,7 @@ use Rattle.triple_rows.specs.Predicates.{Formula, formula_of, truth}
 use Rattle.proof_form.specs.Annotations.{Content}
 use Rattle.proof_names.specs.Outlines.{OutlineNode}
 use Rattle.proof_names.specs.Items.{pred_at}
-use Rattle.fact_expressions.specs.Facts.{Facts, no_facts, facts_from}
+use Rattle.explained_proof.specs.FactExpressions.Facts.{Facts, no_facts, facts_from}
 use Rattle.explained_proof.specs.Tightened.{tight}
 
 -- What is known, by the numbers of predicates, nodes and places.

@@ -3,9 +3,13 @@ pub mod Known
 pub mod Clauses
 pub mod Backwards
 pub mod Statements
-pub mod Fitting
 pub mod Explained
 pub mod Laws
-pub mod Views
 pub mod Worth
 pub mod Readings
+pub mod BuiltExpressions
+pub mod RowExpressions
+pub mod FactExpressions
+pub mod KnownRuns
+pub mod ExplainedRuns
+pub mod Ties

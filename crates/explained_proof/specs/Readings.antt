@@ -7,11 +7,11 @@ use Rattle.boogie_tree.specs.declared.tree.VarInfo.{VarInfo}
 use Rattle.boogie_tree.specs.Tree.{Expression, Lit, Truth, Var, Old, Not, Neg, Bin}
 use Rattle.typed_tree.specs.Values.{State, column_value, at_entry, truth, value_is_zero, operation_value}
 use Rattle.letter_acts.specs.Frames.{Columns, IsFrame}
-use Rattle.row_expressions.specs.declared.scopes.Position.{Position}
-use Rattle.row_expressions.specs.declared.scopes.Voice.{Voice}
-use Rattle.row_expressions.specs.declared.scopes.Voice.TheVariants.{Plain}
-use Rattle.row_expressions.specs.Scopes.{is_requires, voice, has_truth, number_text}
-use Rattle.row_expressions.specs.Worth.{IsReading}
+use Rattle.explained_proof.specs.declared.row_expressions.scopes.Position.{Position}
+use Rattle.explained_proof.specs.declared.row_expressions.scopes.Voice.{Voice}
+use Rattle.explained_proof.specs.declared.row_expressions.scopes.Voice.TheVariants.{Plain}
+use Rattle.explained_proof.specs.RowExpressions.Scopes.{is_requires, voice, has_truth, number_text}
+use Rattle.explained_proof.specs.RowExpressions.Worth.{IsReading}
 use Rattle.explained_proof.specs.Clauses.{KnownProcedure, scope, holding}
 use Rattle.explained_proof.specs.Worth.{IsShallow, IsEntryOf, IsFollowed}
 

@@ -5,8 +5,8 @@ use Rattle.boogie_tree.specs.Apart.{nowhere}
 use Rattle.boogie_tree.specs.Tree.{Expression, Guard, Invariant, Statement, Assert, Call, If, While, Label, Block, Empty, Then}
 use Rattle.typed_tree.specs.TypedTree as typed
 use Rattle.typed_tree.specs.TypedTree.{TypedStatement, TypedBlock, TypedProcedure}
-use Rattle.typing_rules.specs.Counts.{points, block_points}
-use Rattle.row_expressions.specs.declared.scopes.Position.TheVariants.{Body}
+use Rattle.typed_tree.specs.TypingRules.Counts.{points, block_points}
+use Rattle.explained_proof.specs.declared.row_expressions.scopes.Position.TheVariants.{Body}
 use Rattle.explained_proof.specs.Clauses.{KnownProcedure, holding}
 use Rattle.explained_proof.specs.Backwards.{breaks_to}
 

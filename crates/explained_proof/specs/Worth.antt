@@ -12,12 +12,12 @@ use Rattle.triple_rows.specs.Predicates.{Formula, formula_of, FormulaHolds, nest
 use Rattle.proof_form.specs.Annotations.{Content, is_annotation}
 use Rattle.proof_names.specs.Outlines.{OutlineNode}
 use Rattle.proof_names.specs.Items.{pred_at}
-use Rattle.built_expressions.specs.Building.{old_of}
-use Rattle.row_expressions.specs.declared.scopes.Position.{Position}
-use Rattle.row_expressions.specs.declared.scopes.Position.TheVariants.{Requires}
-use Rattle.row_expressions.specs.Scopes.{is_requires}
-use Rattle.row_expressions.specs.Worth.{IsReading, HasColumns}
-use Rattle.fact_expressions.specs.Worth.{facts_hold, IsAt}
+use Rattle.explained_proof.specs.BuiltExpressions.Building.{old_of}
+use Rattle.explained_proof.specs.declared.row_expressions.scopes.Position.{Position}
+use Rattle.explained_proof.specs.declared.row_expressions.scopes.Position.TheVariants.{Requires}
+use Rattle.explained_proof.specs.RowExpressions.Scopes.{is_requires}
+use Rattle.explained_proof.specs.RowExpressions.Worth.{IsReading, HasColumns}
+use Rattle.explained_proof.specs.FactExpressions.Worth.{facts_hold, IsAt}
 use Rattle.explained_proof.specs.declared.clauses.Entered.{Entered}
 use Rattle.explained_proof.specs.Tightened.{tight}
 use Rattle.explained_proof.specs.Known.{Known, known_of, known_at}

@@ -4,7 +4,7 @@ ghost use Rattle.std.specs.Prelude.{◌≡◌, IfOk, OnOk};
 ghost use Rattle.boogie_tree.specs.View as tree;
 ghost use Rattle.typed_tree.specs.TypedView as typed;
 ghost use Rattle.explained_proof.specs.Backwards as spec;
-ghost use Rattle.explained_proof.specs.Views as view;
+ghost use Rattle.explained_proof.specs.Ties.Views as view;
 
 use boogie_tree::{Name, Stmt};
 use std::alloc::{AllocError, Global};

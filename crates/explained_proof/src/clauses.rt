@@ -3,21 +3,21 @@
 ghost use Rattle.std.specs.Prelude.{◌≡◌, ◌∷◌, [], IfOk, map};
 ghost use Rattle.std.specs.List.{list_any};
 ghost use Rattle.boogie_tree.specs.View as tree;
-ghost use Rattle.built_expressions.specs.Building.{operation};
-ghost use Rattle.built_expressions.specs.Members.{joined};
-ghost use Rattle.built_expressions.specs.Views.{conjuncts};
-ghost use Rattle.row_expressions.specs.Views as scopes;
-ghost use Rattle.fact_expressions.specs.Views as seen;
+ghost use Rattle.explained_proof.specs.BuiltExpressions.Building.{operation};
+ghost use Rattle.explained_proof.specs.BuiltExpressions.Members.{joined};
+ghost use Rattle.explained_proof.specs.BuiltExpressions.Views.{conjuncts};
+ghost use Rattle.explained_proof.specs.RowExpressions.Views as scopes;
+ghost use Rattle.explained_proof.specs.FactExpressions.Views as seen;
 ghost use Rattle.explained_proof.specs.Clauses as spec;
 ghost use Rattle.explained_proof.specs.Known.{known_at};
-ghost use Rattle.explained_proof.specs.Views as view;
+ghost use Rattle.explained_proof.specs.Ties.Views as view;
 
+use crate::built_expressions::{Members, old, operation};
+use crate::fact_expressions::{Conjunction, alternatives_said, either_of_all, facts_said};
 use crate::knowledge::Knowledge;
+use crate::row_expressions::{Position, Scope};
 use boogie_tree::{Column, Expr, Op, VarInfo};
-use built_expressions::{Members, old, operation};
-use fact_expressions::{Conjunction, alternatives_said, either_of_all, facts_said};
 use lin_rows::Row;
-use row_expressions::{Position, Scope};
 use std::alloc::{AllocError, Global};
 
 /// An entry node of a procedure, and whether what it knows is the premise of what holds behind it.

@@ -7,13 +7,13 @@ ghost use Rattle.proof_form.specs.Lines as lines;
 ghost use Rattle.proof_names.specs.Items.{pred_at};
 ghost use Rattle.proof_names.specs.Outlines.{node};
 ghost use Rattle.proof_names.specs.Predicates as naming;
-ghost use Rattle.fact_expressions.specs.Facts.{gathered};
-ghost use Rattle.fact_expressions.specs.Views as seen;
+ghost use Rattle.explained_proof.specs.FactExpressions.Facts.{gathered};
+ghost use Rattle.explained_proof.specs.FactExpressions.Views as seen;
 ghost use Rattle.explained_proof.specs.Known as spec;
-ghost use Rattle.explained_proof.specs.Views as view;
+ghost use Rattle.explained_proof.specs.Ties.Views as view;
 
+use crate::fact_expressions::Conjunction;
 use crate::tightening::Tightened;
-use fact_expressions::Conjunction;
 use letter_acts::Icfg;
 use nwa_base::Groups;
 use proof_form::{Annotation, PredLine};

@@ -3,11 +3,16 @@
 #![tactic(auto)]
 
 mod backwards;
+pub mod built_expressions;
 mod clauses;
+pub mod explained_runs;
+pub mod fact_expressions;
 mod knowledge;
+pub mod known_runs;
 pub mod laws;
 mod procedures;
 mod programs;
+pub mod row_expressions;
 mod statements;
 mod tightening;
 

@@ -6,24 +6,24 @@ ghost use Rattle.std.specs.Option.{option_map};
 ghost use Rattle.boogie_tree.specs.Tree as plain;
 ghost use Rattle.boogie_tree.specs.View as tree;
 ghost use Rattle.typed_tree.specs.TypedView as typed;
-ghost use Rattle.typing_rules.specs.Counts.{places};
-ghost use Rattle.typing_rules.specs.TypedParts.{typed_program};
+ghost use Rattle.typed_tree.specs.TypingRules.Counts.{places};
+ghost use Rattle.typed_tree.specs.TypingRules.TypedParts.{typed_program};
 ghost use Rattle.explained_proof.specs.Explained as spec;
 ghost use Rattle.explained_proof.specs.Statements.{condition};
-ghost use Rattle.explained_proof.specs.Views as view;
+ghost use Rattle.explained_proof.specs.Ties.Views as view;
 
 use crate::backwards::backwards_of;
 use crate::clauses::{Entered, Procedure};
 use crate::knowledge::Knowledge;
+use crate::row_expressions::Position;
 use crate::statements::{self, Place, Walk};
-use boogie_points::counts::granted;
+use boogie_run::boogie_points::counts::granted;
 use boogie_tree::{Body, Expr, Name, Proc, Spec, Stmt};
 use letter_acts::Icfg;
-use row_expressions::Position;
 use std::alloc::{AllocError, Global};
+use typed_tree::typing_rules::Typed;
+use typed_tree::typing_rules::laws::typed_programs_are_typed;
 use typed_tree::{TProc, TStmt};
-use typing_rules::Typed;
-use typing_rules::laws::typed_programs_are_typed;
 
 /// A program with its graph, and what is known there.
 #[derive(Clone, Copy)]

@@ -2,11 +2,11 @@
 
 ghost use Rattle.std.specs.Prelude.{◌≡◌, IfOk, map};
 ghost use Rattle.boogie_tree.specs.View as tree;
-ghost use Rattle.typing_rules.specs.TypedParts.{typed_program};
+ghost use Rattle.typed_tree.specs.TypingRules.TypedParts.{typed_program};
 ghost use Rattle.proof_names.specs.Outlines.{node};
 ghost use Rattle.explained_proof.specs.Explained as spec;
 ghost use Rattle.explained_proof.specs.Known.{known_of};
-ghost use Rattle.explained_proof.specs.Views as view;
+ghost use Rattle.explained_proof.specs.Ties.Views as view;
 
 use crate::knowledge::Knowledge;
 use crate::procedures::Telling;
@@ -15,7 +15,7 @@ use letter_acts::Icfg;
 use proof_form::Annotation;
 use proof_names::NamedNode;
 use std::alloc::{AllocError, Global};
-use typing_rules::Typed;
+use typed_tree::typing_rules::Typed;
 
 /// A declaration with what is known of it.
 fn declaration(telling: &Telling<'_>, given: Decl) -> Result<Decl, AllocError>

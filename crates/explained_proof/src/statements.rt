@@ -3,16 +3,16 @@
 ghost use Rattle.std.specs.Prelude.{◌≡◌, ◌++◌, IfOk, OnOk, map, slice_get};
 ghost use Rattle.boogie_tree.specs.View as tree;
 ghost use Rattle.typed_tree.specs.TypedView as typed;
-ghost use Rattle.explained_proof.specs.Fitting.{HasPlaces, StatementFits};
+ghost use Rattle.explained_proof.specs.Ties.Fitting.{HasPlaces, StatementFits};
 ghost use Rattle.explained_proof.specs.Statements as spec;
-ghost use Rattle.explained_proof.specs.Views as view;
+ghost use Rattle.explained_proof.specs.Ties.Views as view;
 
 use crate::backwards::{Numbers, breaks_to};
+use crate::built_expressions::NOWHERE;
 use crate::clauses::Procedure;
-use boogie_points::counts::{block_points, points};
+use crate::row_expressions::Position;
+use boogie_run::boogie_points::counts::{block_points, points};
 use boogie_tree::{Expr, Guard, Inv, Span, Stmt};
-use built_expressions::NOWHERE;
-use row_expressions::Position;
 use std::alloc::{AllocError, Global};
 use typed_tree::{TProc, TStmt};
 

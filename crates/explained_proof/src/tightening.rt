@@ -2,11 +2,11 @@
 
 ghost use Rattle.std.specs.Prelude.{◌≡◌, true, IfOk, map};
 ghost use Rattle.triple_rows.specs.Predicates.{formula_of};
-ghost use Rattle.fact_expressions.specs.Trees.{spells};
-ghost use Rattle.fact_expressions.specs.Views as seen;
+ghost use Rattle.explained_proof.specs.FactExpressions.Trees.{spells};
+ghost use Rattle.explained_proof.specs.FactExpressions.Views as seen;
 ghost use Rattle.explained_proof.specs.Tightened as spec;
 
-use fact_expressions::Tree;
+use crate::fact_expressions::Tree;
 use lin_rows::tighten;
 use std::alloc::{AllocError, Global};
 use triple_rows::{Pred, PredNode};

@@ -9,7 +9,7 @@ use Rattle.lin_rows.specs.declared.types.RowKind.{RowKind}
 use Rattle.lin_rows.specs.Rows.{LinearRow, AscendsFrom}
 use Rattle.lin_rows.specs.Tightening.{tightened}
 use Rattle.lin_rows.specs.Combinations.{row_at, Multiplies, IsPart, combined, RunFits, Contradicts}
-use Rattle.farkas_check.specs.Leaves.{PartSum, columns_of, MayFollow, RowFits, AddsRow, CanAdd, AddsPart, IsContradiction}
+use Rattle.farkas_check.specs.Ties.Leaves.{PartSum, columns_of, MayFollow, RowFits, AddsRow, CanAdd, AddsPart, IsContradiction}
 
 -- The sum so far with these parts says `0 <= c` with `c < 0`, and each multiplier and each number on the way fits. The parts ascend by row, from
 -- the number next on.

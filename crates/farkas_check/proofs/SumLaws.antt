@@ -10,7 +10,7 @@ use Rattle.math_facts.specs.Optional.{or_zero}
 use Rattle.math_facts.proofs.TermLaws.{coefficient-append}
 use Rattle.lin_rows.specs.Rows.{AscendsFrom}
 use Rattle.lin_rows.proofs.Ascending.{coefficient_first, coefficient_rest}
-use Rattle.farkas_check.specs.Leaves.{AreKept, TermsFit, AddsTerms}
+use Rattle.farkas_check.specs.Ties.Leaves.{AreKept, TermsFit, AddsTerms}
 
 -- ---- a term and those before it
 

@@ -1,5 +1,5 @@
 pub mod Nodes
 pub mod Refutes
 pub mod Trees
-pub mod Leaves
 pub mod Walks
+pub mod Ties

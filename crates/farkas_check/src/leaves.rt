@@ -2,7 +2,7 @@ ghost use Rattle.std.specs.Prelude.{◌≡◌, ◌↔◌, ℕ, ℤ, IfOk, IsTrue
 ghost use Rattle.math_facts.specs.Fits.{Fits};
 ghost use Rattle.lin_rows.specs.Combinations.{Multiplies, Contradicts};
 ghost use Rattle.lin_rows.specs.Tightening.{tightened};
-ghost use Rattle.farkas_check.specs.Leaves.{MayFollow, CanAdd, AddsPart, AddsRow, RowFits};
+ghost use Rattle.farkas_check.specs.Ties.Leaves.{MayFollow, CanAdd, AddsPart, AddsRow, RowFits};
 
 use crate::sums::Sum;
 use lin_rows::{Row, RowKind, tighten};

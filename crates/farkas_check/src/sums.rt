@@ -4,7 +4,7 @@ ghost use Rattle.std.specs.Prelude.{◌≡◌, ◌↔◌, ℕ, ℤ, pos, IsTrue,
 ghost use Rattle.math_facts.specs.Fits.{Fits};
 ghost use Rattle.math_facts.specs.Terms.{with_value};
 ghost use Rattle.lin_rows.specs.Rows.{AscendsFrom};
-ghost use Rattle.farkas_check.specs.Leaves.{columns_of, TermsFit, AddsTerms, RowFits, AddsRow, IsContradiction};
+ghost use Rattle.farkas_check.specs.Ties.Leaves.{columns_of, TermsFit, AddsTerms, RowFits, AddsRow, IsContradiction};
 
 use lin_rows::{Col, Row, plus_times};
 use std::alloc::{AllocError, Global};
@@ -19,7 +19,7 @@ pub(crate) struct Sum {
 }
 
 impl Model for Sum {
-    ghost use Rattle.farkas_check.specs.Leaves.{PartSum, AreKept};
+    ghost use Rattle.farkas_check.specs.Ties.Leaves.{PartSum, AreKept};
 
     ghost Value = { PartSum };
 

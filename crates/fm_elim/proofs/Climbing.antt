@@ -4,7 +4,7 @@ use Rattle.fm_elim.specs.Folds.{first}
 use Rattle.fm_elim.specs.Derivations.{DerivedRow, is_false, refuting}
 use Rattle.fm_elim.specs.Columns.{SetAside, Eliminated, elimination_step, EliminationStepFits}
 use Rattle.fm_elim.specs.Elimination.{EliminationOutcome, refuted, point, unless_false, UnlessFalse, extended, ExtendedFits, solve, SolveFits}
-use Rattle.fm_elim.specs.Climb.{climb, ClimbFits, SetsColumn, SetColumns, IsDown, IsBottom}
+use Rattle.fm_elim.specs.Ties.Climb.{climb, ClimbFits, SetsColumn, SetColumns, IsDown, IsBottom}
 use Rattle.fm_elim.proofs.SetColumnLemmas.{step_sets}
 
 pub climb_push : (n k : ℕ) (asides : List SetAside) (a : SetAside) (o : EliminationOutcome) → suc k + length asides ≡ n → climb n (asides ++ a ∷ []) o ≡ climb n asides (extended k a o)

@@ -9,7 +9,7 @@ use Rattle.fm_elim.specs.Folds.{first, Where}
 use Rattle.fm_elim.specs.Derivations.{DerivedRow, at, has, is_upper, is_lower, is_equality, is_false}
 use Rattle.lin_rows.specs.Sums.{is_zero}
 use Rattle.fm_elim.specs.Columns.{SetAside, Eliminated, bounded, is_pivot, both_halves, BothHalvesFit, halves, HalvesFit, PairFits, pairs, paired_off, CombinedFits, elimination_step_by, StepByFits, elimination_step, EliminationStepFits}
-use Rattle.fm_elim.specs.Climb.{IsDown}
+use Rattle.fm_elim.specs.Ties.Climb.{IsDown}
 use Rattle.fm_elim.specs.declared.types.Aside.{Aside}
 use Rattle.fm_elim.specs.Answers.{aside_of}
 use Rattle.fm_elim.proofs.Climbing.{down_more}

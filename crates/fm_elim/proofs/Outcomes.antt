@@ -4,7 +4,7 @@ use Rattle.frac.specs.Fractions.{Fraction}
 use Rattle.fm_elim.specs.Derivations.{DerivedRow}
 use Rattle.fm_elim.specs.Columns.{SetAside}
 use Rattle.fm_elim.specs.Elimination.{EliminationOutcome, refuted, point, extended, ExtendedFits, solve, SolveFits}
-use Rattle.fm_elim.specs.Climb.{climb, ClimbFits, IsBottom}
+use Rattle.fm_elim.specs.Ties.Climb.{climb, ClimbFits, IsBottom}
 
 climb_refuted : (n : ℕ) (asides : List SetAside) (parts : List (ℕ × ℤ)) → climb n asides (refuted parts) ≡ refuted parts
 climb_refuted n [] parts = refl

@@ -6,7 +6,7 @@ use Rattle.std.proofs.lemmas.Int.{ints}
 use Rattle.fm_elim.specs.Folds.{first}
 use Rattle.fm_elim.specs.Derivations.{DerivedRow, at, is_upper, is_lower}
 use Rattle.fm_elim.specs.Columns.{is_pivot, halves, elimination_step_by, elimination_step}
-use Rattle.fm_elim.specs.Climb.{SetsColumn}
+use Rattle.fm_elim.specs.Ties.Climb.{SetsColumn}
 use Rattle.fm_elim.proofs.Lists.{all_weaker, all_always, all_first}
 use Rattle.fm_elim.proofs.Multipliers.{less_is}
 use Rattle.fm_elim.proofs.Clearing.{pivot_is_unit}

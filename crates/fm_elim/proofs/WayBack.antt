@@ -8,7 +8,7 @@ use Rattle.fm_elim.specs.Answers.{Gives, aside_of}
 use Rattle.fm_elim.specs.Columns.{SetAside}
 use Rattle.fm_elim.specs.Values.{value_of, ValueFits}
 use Rattle.fm_elim.specs.Elimination.{point}
-use Rattle.fm_elim.specs.Climb.{ClimbFits, SetsColumn, SetColumns, IsUp}
+use Rattle.fm_elim.specs.Ties.Climb.{ClimbFits, SetsColumn, SetColumns, IsUp}
 use Rattle.fm_elim.proofs.Lists.{all_append}
 use Rattle.fm_elim.proofs.Climbing.{climb_push, climb_fits_push, set_columns_push}
 

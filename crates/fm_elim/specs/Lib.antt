@@ -5,6 +5,6 @@ pub mod Derivations
 pub mod Columns
 pub mod Values
 pub mod Elimination
-pub mod Climb
 pub mod Worth
 pub mod Slices
+pub mod Ties

@@ -2,7 +2,7 @@
 
 ghost use Rattle.std.specs.Prelude.{◌≡◌, [], length, map};
 ghost use Rattle.fm_elim.specs.Answers.{Exactly, aside_of};
-ghost use Rattle.fm_elim.specs.Climb.{climb, ClimbFits, SetColumns};
+ghost use Rattle.fm_elim.specs.Ties.Climb.{climb, ClimbFits, SetColumns};
 ghost use Rattle.fm_elim.specs.Elimination.{point};
 
 use crate::types::{Aside, ElimFault};

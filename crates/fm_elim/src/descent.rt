@@ -4,7 +4,7 @@ ghost use Rattle.std.specs.Prelude.{◌≡◌, ◌≤◌, ◌<◌, ◌-◌, ℕ,
 ghost use Rattle.std.specs.List.{AllByRecursion};
 ghost use Rattle.std.specs.Result.{MatchResult};
 ghost use Rattle.fm_elim.specs.Answers.{PastOnly, aside_of};
-ghost use Rattle.fm_elim.specs.Climb.{IsBottom, bottom_of};
+ghost use Rattle.fm_elim.specs.Ties.Climb.{IsBottom, bottom_of};
 ghost use Rattle.fm_elim.specs.Columns.{bounded};
 ghost use Rattle.fm_elim.specs.Derivations.{at};
 ghost use Rattle.fm_elim.specs.Elimination.{SolveFits};

@@ -8,7 +8,7 @@ ghost use Rattle.lin_rows.specs.Rows.{IsCoefficient};
 ghost use Rattle.fm_elim.specs.Answers.{Exactly, Gives, GivesEnd, aside_of};
 ghost use Rattle.fm_elim.specs.Derivations.{at};
 ghost use Rattle.fm_elim.specs.Values.{value_at, with_term, WithTermFits, sum_of, SumOfFits, end_of, EndFits, raised, RaisedFits, lowered_end, LoweredFits, lower_end, upper_end, value_of, ValueFits};
-ghost use Rattle.fm_elim.specs.Climb.{SetsColumn};
+ghost use Rattle.fm_elim.specs.Ties.Climb.{SetsColumn};
 ghost use Rattle.fm_elim.specs.Folds.{FoldFits};
 
 use crate::fractions::{greater_end, less_end, minus, nearest, over, plus, times, whole};

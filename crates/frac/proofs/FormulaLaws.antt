@@ -9,7 +9,7 @@ use Rattle.math_facts.specs.Fits.{Fits}
 use Rattle.math_facts.proofs.Whole.{product_swap, product_strict}
 use Rattle.math_facts.proofs.Division.{multiple_floor}
 use Rattle.frac.specs.Fractions.{Fraction, Compares}
-use Rattle.frac.specs.Reduced.{Reduces}
+use Rattle.frac.specs.Ties.Reduced.{Reduces}
 use Rattle.frac.specs.Sums.{IsDenominatorGcd, cross_product, cross_sum, ComparisonFits, SumFits}
 use Rattle.frac.proofs.LowestTerms.{positive_abs}
 use Rattle.frac.proofs.Reducing.{positive_nonzero}

@@ -7,7 +7,7 @@ use Rattle.std.proofs.lemmas.Nat.Gcd.{IsGcd-swap}
 use Rattle.math_facts.specs.Fits.{Fits}
 use Rattle.math_facts.proofs.Whole.{product_comm}
 use Rattle.frac.specs.Fractions.{Fraction, IsLowest, IsFraction, IsRatio, IsTooLarge}
-use Rattle.frac.specs.Reduced.{Reduces}
+use Rattle.frac.specs.Ties.Reduced.{Reduces}
 use Rattle.frac.proofs.Factors.{product_pairs, product_inner}
 use Rattle.frac.proofs.LowestTerms.{too_large}
 use Rattle.frac.proofs.Divisors.{coprime_product, coprime_divisors}

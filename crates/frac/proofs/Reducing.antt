@@ -8,7 +8,7 @@ use Rattle.math_facts.proofs.Whole.{product_neg_left, product_neg_right, product
 use Rattle.math_facts.proofs.Division.{exact, exact-int_div}
 use Rattle.frac.specs.Signs.{differ_in_sign, with_sign}
 use Rattle.frac.specs.Fractions.{Fraction, IsLowest, IsFraction, IsRatio, IsTooLarge}
-use Rattle.frac.specs.Reduced.{Reduces}
+use Rattle.frac.specs.Ties.Reduced.{Reduces}
 use Rattle.frac.proofs.Divisors.{coprime_quotients}
 use Rattle.frac.proofs.LowestTerms.{too_large}
 

@@ -7,7 +7,7 @@ use Rattle.std.proofs.lemmas.Int.{ints, unsigned_abs-mul}
 use Rattle.math_facts.specs.Fits.{Fits}
 use Rattle.math_facts.proofs.Whole.{product_zero_right, product_strict, cancel_strict}
 use Rattle.frac.proofs.Divisors.{coprime_quotients}
-use Rattle.frac.specs.Reduced.{Reduces}
+use Rattle.frac.specs.Ties.Reduced.{Reduces}
 use Rattle.frac.proofs.Reducing.{positive_nonzero}
 
 -- the magnitude of a product

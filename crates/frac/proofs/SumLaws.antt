@@ -8,7 +8,7 @@ use Rattle.std.proofs.lemmas.Nat.Gcd.{dvd_refl, IsGcd-swap}
 use Rattle.math_facts.specs.Fits.{Fits}
 use Rattle.math_facts.proofs.Whole.{product_assoc, product_swap, product_neg_right, product_neg_left, distrib_left, positive_cancel}
 use Rattle.frac.specs.Fractions.{Fraction, IsLowest, IsFraction, IsRatio}
-use Rattle.frac.specs.Reduced.{Reduces}
+use Rattle.frac.specs.Ties.Reduced.{Reduces}
 use Rattle.frac.proofs.Factors.{product_pairs, product_inner}
 use Rattle.frac.proofs.Divisors.{coprime_product, coprime_divisors}
 use Rattle.frac.proofs.Sharing.{second_divides, quotient_fits, quotients_coprime, positive_quotient, positive_product}

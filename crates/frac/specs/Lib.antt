@@ -1,4 +1,4 @@
 pub mod Fractions
 pub mod Sums
 pub mod Signs
-pub mod Reduced
+pub mod Ties

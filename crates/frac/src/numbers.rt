@@ -4,7 +4,7 @@ ghost use Rattle.std.specs.Prelude.{◌≡◌, ◌^◌, ◌<◌, ℤ, pos, ◌+�
 ghost use Rattle.std.specs.Int.{IsGcd, int_div_euclid, ◌∣◌};
 ghost use Rattle.std.specs.Result.{OkIff};
 ghost use Rattle.math_facts.specs.Fits.{Fits};
-ghost use Rattle.frac.specs.Reduced.{Reduces};
+ghost use Rattle.frac.specs.Ties.Reduced.{Reduces};
 ghost use Rattle.frac.specs.Signs.{differ_in_sign, with_sign};
 
 use crate::types::Past;

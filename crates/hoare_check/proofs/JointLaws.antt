@@ -28,7 +28,7 @@ use Rattle.triple_rows.proofs.DraftLaws.{groups_joined_are, both_fit}
 use Rattle.triple_rows.proofs.SaidLaws.{both_met}
 use Rattle.triple_rows.proofs.PlainLaws.{system_met}
 use Rattle.hoare_check.specs.declared.halves.Half.{Half}
-use Rattle.hoare_check.specs.Counts.{IsCount}
+use Rattle.hoare_check.specs.Ties.Counts.{IsCount}
 use Rattle.hoare_check.specs.Decided.{RefutesUncut}
 use Rattle.hoare_check.specs.Halves.{IsFalseRow, IsHalf, IsJoint, IsDecidedUncut, IsUncutRefutation, MayDecide, MayRefute, MayFind, IsMetInBoth, IsBare}
 use Rattle.hoare_check.proofs.FalseRowLaws.{never_refutes}

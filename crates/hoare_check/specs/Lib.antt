@@ -1,3 +1,3 @@
-pub mod Counts
 pub mod Decided
 pub mod Halves
+pub mod Ties

@@ -3,7 +3,7 @@
 ghost use Rattle.std.specs.Prelude.{◌+◌, Some, length};
 ghost use Rattle.letter_acts.specs.Acts.{plain_act};
 ghost use Rattle.letter_acts.specs.Invariant.{alphabet_of, written_by};
-ghost use Rattle.hoare_check.specs.Counts.{IsCount};
+ghost use Rattle.hoare_check.specs.Ties.Counts.{IsCount};
 ghost use Rattle.triple_rows.specs.Cuts.{inside_columns, call_columns, back_columns, columns_of};
 ghost use Rattle.letter_acts.specs.Widths.{back_width};
 

@@ -4,7 +4,7 @@ ghost use Rattle.std.specs.Prelude.{◌↔◌, ◌<◌, ℕ, IsTrue};
 ghost use Rattle.std.specs.List.{AllByRecursion};
 ghost use Rattle.farkas_check.specs.Nodes.{plain, plain_nodes};
 ghost use Rattle.letter_acts.specs.Invariant.{alphabet_of};
-ghost use Rattle.hoare_check.specs.Counts.{IsCount};
+ghost use Rattle.hoare_check.specs.Ties.Counts.{IsCount};
 ghost use Rattle.hoare_check.specs.Decided.{AreCutsWithin};
 ghost use Rattle.triple_rows.specs.Cuts.{IsCutWithin};
 

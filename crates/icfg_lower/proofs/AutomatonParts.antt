@@ -11,7 +11,7 @@ use Rattle.letter_acts.specs.declared.acts.Act.{Act}
 use Rattle.letter_acts.specs.Acts.{PlainAct, plain_act, plain_acts, mark_of, marks_of}
 use Rattle.letter_acts.specs.Frames.{Columns}
 use Rattle.letter_acts.specs.Invariant.{Graph, site_places}
-use Rattle.letter_table.specs.Letters.{Lettered, lettered, marked_acts}
+use Rattle.letter_acts.specs.LetterTable.Letters.{Lettered, lettered, marked_acts}
 use Rattle.lowered_graph.specs.Arcs.{first_error, program_arcs}
 use Rattle.lowered_graph.specs.Lowered.{program_sites, lowered}
 

@@ -2,16 +2,16 @@
 use Rattle.std.proofs.Common.{◌≡◌, ◌∙◌, ℕ, zero, suc, ◌+◌, ◌<◌, Bool, false, List, [], ◌∷◌, ◌++◌, map, length, drop, Option, None, Some, slice_get, refl, sym, ap, arith, append_assoc}
 use Rattle.std.specs.Option.{option_map, option_and_then}
 use Rattle.typed_tree.specs.TypedTree.{Assert, Assume, Havoc, Assign, Call, If, While, Break, Goto, Return, Label, TypedInvariant, TypedBlock, Empty, Then, TypedProcedure, TypedProgram}
-use Rattle.typing_rules.specs.Counts.{block_points}
-use Rattle.boogie_points.specs.Points.{Todo, Point, at_exit, unless_ended}
-use Rattle.boogie_points.specs.Actions.{entry_point, free_conditions, ensured_conditions, first_assertion, first_place}
-use Rattle.boogie_points.specs.Starts.{point_of_procedure, point_of_call}
-use Rattle.boogie_places.specs.Places.{place_of, number_with, number_if_any}
+use Rattle.typed_tree.specs.TypingRules.Counts.{block_points}
+use Rattle.boogie_run.specs.BoogiePoints.Points.{Todo, Point, at_exit, unless_ended}
+use Rattle.boogie_run.specs.BoogiePoints.Actions.{entry_point, free_conditions, ensured_conditions, first_assertion, first_place}
+use Rattle.boogie_run.specs.BoogiePoints.Starts.{point_of_procedure, point_of_call}
+use Rattle.boogie_run.specs.BoogiePlaces.Places.{place_of, number_with, number_if_any}
 use Rattle.lowered_graph.specs.Arcs.{place_number, return_point, return_place}
 use Rattle.lowered_graph.specs.Lowered.{counted_procs, entry_of, exit_of}
-use Rattle.program_layout.specs.declared.marks.Marks.{Marks}
-use Rattle.program_layout.specs.Layouts.{marks_with, marks_of}
-use Rattle.icfg_lower.specs.Bodies.{body_marks}
+use Rattle.icfg_lower.specs.declared.program_layout.marks.Marks.{Marks}
+use Rattle.icfg_lower.specs.ProgramLayout.Layouts.{marks_with, marks_of}
+use Rattle.icfg_lower.specs.Ties.Bodies.{body_marks}
 use Rattle.icfg_lower.proofs.PlaceOwners.{drop_at}
 
 number_here : (t : TypedProgram) (n : ℕ) (q : TypedProcedure) (b : TypedBlock) (p : Point) → slice_get t.procs n ≡ Some q → q.body ≡ Some b → place_number t n p ≡ place_of t n q b p

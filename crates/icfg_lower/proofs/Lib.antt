@@ -2,3 +2,8 @@ pub mod SiteCounts
 pub mod PlaceOwners
 pub mod BodyEnds
 mod AutomatonParts
+pub mod CallJumps
+pub mod ProgramLayout
+pub mod PlaceEdges
+pub mod LabelPlaces
+pub mod ProgramWalk

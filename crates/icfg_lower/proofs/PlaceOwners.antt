@@ -5,21 +5,21 @@ use Rattle.std.specs.Option.{option_map}
 use Rattle.std.proofs.lemmas.Option.{same_Some}
 use Rattle.std.proofs.lemmas.List.{length-append, length-map, map-append}
 use Rattle.typed_tree.specs.TypedTree.{TypedStatement, Assert, Assume, Havoc, Assign, Call, If, While, Break, Goto, Return, Label, TypedBlock, Empty, Then, TypedProcedure, TypedProgram}
-use Rattle.typing_rules.specs.ValidProgram.{is_valid}
-use Rattle.typing_rules.specs.Counts.{plain_invariants, plain_requires, checked_at_call, assertions, points, block_assertions, block_points, body_assertions, body_points}
-use Rattle.typing_rules.proofs.ValidLaws as valid
+use Rattle.typed_tree.specs.TypingRules.ValidProgram.{is_valid}
+use Rattle.typed_tree.specs.TypingRules.Counts.{plain_invariants, plain_requires, checked_at_call, assertions, points, block_assertions, block_points, body_assertions, body_points}
+use Rattle.typed_tree.proofs.TypingRules.ValidLaws as valid
 use Rattle.letter_acts.specs.declared.sites.Site.{Site}
-use Rattle.boogie_points.specs.Points.{Todo, Start, Entry, Point, at_exit, before, past}
-use Rattle.boogie_points.specs.Actions as actions
-use Rattle.boogie_points.specs.Actions.{Action, action_at, free_conditions, ensured_conditions, start_conditions, first_assertion, first_place}
-use Rattle.boogie_points.proofs.ConditionLaws.{plain_requires_counted, free_requires_counted}
-use Rattle.boogie_places.specs.Places.{parts_from, at_statement, points_in, points_of, points_of_body, start_points, Place, located, points_with, places_from, starts_if_any, program_places}
+use Rattle.boogie_run.specs.BoogiePoints.Points.{Todo, Start, Entry, Point, at_exit, before, past}
+use Rattle.boogie_run.specs.BoogiePoints.Actions as actions
+use Rattle.boogie_run.specs.BoogiePoints.Actions.{Action, action_at, free_conditions, ensured_conditions, start_conditions, first_assertion, first_place}
+use Rattle.boogie_run.proofs.BoogiePoints.ConditionLaws.{plain_requires_counted, free_requires_counted}
+use Rattle.boogie_run.specs.BoogiePlaces.Places.{parts_from, at_statement, points_in, points_of, points_of_body, start_points, Place, located, points_with, places_from, starts_if_any, program_places}
 use Rattle.lowered_graph.specs.Lowered.{action_sites, sites_of, place_owners}
 use Rattle.lowered_graph.proofs.CallPlaces.{action_is}
-use Rattle.program_layout.specs.declared.marks.Marks.{Marks}
-use Rattle.program_layout.specs.Layouts.{marks_with, marks_of}
-use Rattle.program_layout.proofs.CountLaws.{ensured_counted}
-use Rattle.icfg_lower.specs.Owners.{owners, site_owners, owners_from, site_owners_from}
+use Rattle.icfg_lower.specs.declared.program_layout.marks.Marks.{Marks}
+use Rattle.icfg_lower.specs.ProgramLayout.Layouts.{marks_with, marks_of}
+use Rattle.icfg_lower.proofs.ProgramLayout.CountLaws.{ensured_counted}
+use Rattle.icfg_lower.specs.Ties.Owners.{owners, site_owners, owners_from, site_owners_from}
 use Rattle.icfg_lower.proofs.SiteCounts.{asserted, asserted_at, at_stage, body_asserted, start_asserted}
 
 replicate_sum : {X : Type 0} (m n : ℕ) (x : X) → replicate (m + n) x ≡ replicate m x ++ replicate n x

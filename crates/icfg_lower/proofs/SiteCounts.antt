@@ -3,12 +3,12 @@ use Rattle.std.proofs.Common.{◌≡◌, ◌∙◌, ℕ, zero, suc, ◌+◌, ◌
 use Rattle.boogie_tree.specs.declared.span.Span.{Span}
 use Rattle.boogie_tree.specs.declared.tree.Column.{Column}
 use Rattle.typed_tree.specs.TypedTree.{TypedExpression, TypedGuard, Any, Cond, TypedInvariant, TypedStatement, Assert, Assume, Havoc, Assign, Call, If, While, Break, Goto, Return, Label, TypedBlock, Empty, Then, TypedSpecification, Requires, Ensures, TypedProcedure, TypedProgram}
-use Rattle.typing_rules.specs.Counts.{one_if, one_if_plain, plain_invariants, plain_ensures, checked_at_call, assertions, points, block_assertions, block_points, body_assertions}
-use Rattle.boogie_points.specs.Points.{Todo, Start, Entry, Point, at_exit, before, settled, past}
-use Rattle.boogie_points.specs.Actions as actions
-use Rattle.boogie_points.specs.Actions.{Action, next_part, stage_action, start_action, entry_action, exit_action, checked, guarded, head_action, havoc_action, one_of, ways_to, call_if_any, call_action, called_action, unseen_action, free_conditions, ensured_conditions, start_conditions, plain_conditions, chosen_columns, first_assertion, first_place, first_point}
-use Rattle.boogie_points.proofs.ConditionLaws.{plain_requires_counted}
-use Rattle.boogie_places.specs.Places.{parts_from, at_statement, points_in, points_of, points_of_body, start_points}
+use Rattle.typed_tree.specs.TypingRules.Counts.{one_if, one_if_plain, plain_invariants, plain_ensures, checked_at_call, assertions, points, block_assertions, block_points, body_assertions}
+use Rattle.boogie_run.specs.BoogiePoints.Points.{Todo, Start, Entry, Point, at_exit, before, settled, past}
+use Rattle.boogie_run.specs.BoogiePoints.Actions as actions
+use Rattle.boogie_run.specs.BoogiePoints.Actions.{Action, next_part, stage_action, start_action, entry_action, exit_action, checked, guarded, head_action, havoc_action, one_of, ways_to, call_if_any, call_action, called_action, unseen_action, free_conditions, ensured_conditions, start_conditions, plain_conditions, chosen_columns, first_assertion, first_place, first_point}
+use Rattle.boogie_run.proofs.BoogiePoints.ConditionLaws.{plain_requires_counted}
+use Rattle.boogie_run.specs.BoogiePlaces.Places.{parts_from, at_statement, points_in, points_of, points_of_body, start_points}
 
 -- how many assertions an action makes
 abbrev pub asserted : Action → ℕ

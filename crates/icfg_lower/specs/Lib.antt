@@ -1,3 +1,6 @@
-pub mod Bodies
-pub mod Owners
-pub mod Built
+pub mod CallJumps
+pub mod ProgramLayout
+pub mod PlaceEdges
+pub mod LabelPlaces
+pub mod ProgramWalk
+pub mod Ties

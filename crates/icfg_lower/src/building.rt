@@ -4,24 +4,24 @@ ghost use Rattle.std.specs.Prelude.{◌≡◌, ◌≢◌, ◌+◌, ◌<◌, ◌+
 ghost use Rattle.std.specs.List.{AllByRecursion};
 ghost use Rattle.std.specs.Option.{option_map};
 ghost use Rattle.typed_tree.specs.TypedView as view;
-ghost use Rattle.typing_rules.specs.TypedParts.{typed_program};
+ghost use Rattle.typed_tree.specs.TypingRules.TypedParts.{typed_program};
 ghost use Rattle.nwa_base.specs.declared.letters.Kind.TheVariants.{Inside, Call};
 ghost use Rattle.nwa_base.specs.Automata.{IsAutomaton, IsEdge, IsBackEdge};
 ghost use Rattle.letter_acts.specs.Invariant.{IsGraph, alphabet_of, site_places};
 ghost use Rattle.letter_acts.specs.Parts as parts;
 ghost use Rattle.letter_acts.specs.Widths.{ActsFit};
-ghost use Rattle.letter_table.specs.Letters as letters;
+ghost use Rattle.letter_acts.specs.LetterTable.Letters as letters;
 ghost use Rattle.lowered_graph.specs.Arcs.{program_arcs};
 ghost use Rattle.lowered_graph.specs.Lowered.{counted_procs, entry_of, exit_of, place_owners, program_sites, lowered};
-ghost use Rattle.icfg_lower.specs.Bodies.{body_marks};
-ghost use Rattle.icfg_lower.specs.Owners.{owners_from, site_owners_from};
-ghost use Rattle.icfg_lower.specs.Built.{plain_lettered};
+ghost use Rattle.icfg_lower.specs.Ties.Bodies.{body_marks};
+ghost use Rattle.icfg_lower.specs.Ties.Owners.{owners_from, site_owners_from};
+ghost use Rattle.icfg_lower.specs.Ties.Built.{plain_lettered};
 
+use crate::program_layout::{Layout, Marks};
 use boogie_tree::Text;
+use letter_acts::letter_table::Lettered;
 use letter_acts::{Act, Frame, Icfg, Site, icfg};
-use letter_table::Lettered;
 use nwa_base::{Letter, Nwa, NwaFault, empty};
-use program_layout::{Layout, Marks};
 use std::alloc::{AllocError, Global};
 use typed_tree::TProc;
 

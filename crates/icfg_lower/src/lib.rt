@@ -2,7 +2,12 @@
 #![tactic(auto)]
 
 mod building;
+pub mod call_jumps;
 mod faults;
+pub mod label_places;
+pub mod place_edges;
+pub mod program_layout;
+pub mod program_walk;
 mod programs;
 
 pub use faults::LowerFault;

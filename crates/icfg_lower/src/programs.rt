@@ -2,28 +2,28 @@
 
 ghost use Rattle.std.specs.Prelude.{◌≡◌, map, None, Some, Err, IsOk, IfOk};
 ghost use Rattle.boogie_tree.specs.declared.span.Span.{Span};
-ghost use Rattle.typing_rules.specs.TypedParts.{typed_program};
+ghost use Rattle.typed_tree.specs.TypingRules.TypedParts.{typed_program};
 ghost use Rattle.nwa_base.specs.Automata.{IsAutomaton};
 ghost use Rattle.letter_acts.specs.Invariant.{IsGraph, alphabet_of};
 ghost use Rattle.letter_acts.specs.Widths.{ActsFit};
-ghost use Rattle.letter_table.specs.Letters as letters;
+ghost use Rattle.letter_acts.specs.LetterTable.Letters as letters;
 ghost use Rattle.lowered_graph.specs.Arcs.{program_arcs};
 ghost use Rattle.lowered_graph.specs.Items as items;
 ghost use Rattle.lowered_graph.specs.Laws.{IsFaithful};
 ghost use Rattle.lowered_graph.specs.Lowered.{program_sites, lowered};
-ghost use Rattle.place_edges.specs.Faults.{plain_faults};
+ghost use Rattle.icfg_lower.specs.PlaceEdges.Ties.Faults.{plain_faults};
 
 use crate::building::graph;
 use crate::faults::LowerFault;
+use crate::place_edges::{ItemFault, Lowered};
+use crate::program_layout::{Layout, lay_out};
+use crate::program_walk::walk;
 use letter_acts::Icfg;
 use lowered_graph::laws::{
     lowered_programs_are_graphs, lowered_programs_have_automata, lowering_is_faithful,
 };
-use place_edges::{ItemFault, Lowered};
-use program_layout::{Layout, lay_out};
-use program_walk::walk;
 use std::alloc::{AllocError, Global};
-use typing_rules::Typed;
+use typed_tree::typing_rules::Typed;
 
 /// What the graph of a typed program is worth.
 fn is_faithful(program: &Typed)

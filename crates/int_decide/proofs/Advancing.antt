@@ -20,7 +20,7 @@ use Rattle.int_decide.specs.Decide.{first_broken, decide_rows, decide_groups}
 use Rattle.fm_elim.specs.Quotients.{floor}
 use Rattle.int_decide.specs.Numbers.{EachUntilWhole, RowsFit, GroupsFit, LeavesFit}
 use Rattle.int_decide.specs.Sizes.{total, over_groups, group_count, extent, AllMembers, SystemBelow}
-use Rattle.int_decide.specs.Searching.{Task, Standing, opened, sides, after_broken, after_values, after_outcome, after_cases, after_groups, values_if, whole_outcome, whole_groups, StaysTight, IsReady, found_by, decide_task, TaskFits, goals_of, SomeMet, IsSound, steps_left}
+use Rattle.int_decide.specs.Ties.Searching.{Task, Standing, opened, sides, after_broken, after_values, after_outcome, after_cases, after_groups, values_if, whole_outcome, whole_groups, StaysTight, IsReady, found_by, decide_task, TaskFits, goals_of, SomeMet, IsSound, steps_left}
 use Rattle.int_decide.proofs.DecisionLaws.{nothing_beside, beside_assoc, under_beside, all_beside-map-append, UnlessWhole-beside, UnlessWhole-under, UnlessWhole-both, EachUntilWhole-append}
 use Rattle.int_decide.proofs.Enough.{map_same, each_same, left_for_each, same_decision, same_numbers}
 use Rattle.int_decide.proofs.Opening.{extent_opened, SystemBelow_open}

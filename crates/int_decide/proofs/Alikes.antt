@@ -19,8 +19,8 @@ use Rattle.int_decide.specs.Decisions.{Decision, refuted, whole, gap, beside, un
 use Rattle.int_decide.specs.Decide.{first_broken, by_values, by_outcome, decide_rows, decide}
 use Rattle.fm_elim.specs.Quotients.{floor}
 use Rattle.int_decide.specs.Sizes.{extent, SystemBelow}
-use Rattle.int_decide.specs.Searching.{Task, Standing, standing_of, cut_at, sides, after_broken, after_values, after_outcome, values_if, whole_outcome, StaysTight, IsReady, found_by, decide_task, SomeMet, Takes, TakesNone, IsPoint}
-use Rattle.int_decide.specs.Alike.{AreAlike, StandsIn, bare, StandsAfter, GoesOn, IsMetBy, ComesTo}
+use Rattle.int_decide.specs.Ties.Searching.{Task, Standing, standing_of, cut_at, sides, after_broken, after_values, after_outcome, values_if, whole_outcome, StaysTight, IsReady, found_by, decide_task, SomeMet, Takes, TakesNone, IsPoint}
+use Rattle.int_decide.specs.Ties.Alike.{AreAlike, StandsIn, bare, StandsAfter, GoesOn, IsMetBy, ComesTo}
 use Rattle.int_decide.proofs.DecisionLaws.{nothing_beside, beside_assoc}
 use Rattle.int_decide.proofs.TightRows.{at_most_stays, above_stays, tight_stay}
 use Rattle.int_decide.proofs.Points.{broken_below, whole_meets_all}

@@ -10,7 +10,7 @@ use Rattle.math_facts.proofs.Whole.{product_comm, product_one_right, distrib_lef
 use Rattle.frac.specs.Fractions.{Fraction, IsFraction}
 use Rattle.int_decide.specs.Decide.{first_broken}
 use Rattle.fm_elim.specs.Quotients.{floor}
-use Rattle.int_decide.specs.Searching.{cut_at}
+use Rattle.int_decide.specs.Ties.Searching.{cut_at}
 
 -- the greatest whole number that is not above z/d
 pub floor_is : (z d k : ℤ) → pos 0 <ℤ d → (k *ℤ d) ≤ℤ z → z <ℤ ((k +ℤ pos 1) *ℤ d) → k ≡ int_div_euclid z d

@@ -11,7 +11,7 @@ use Rattle.int_decide.specs.Answers.{decision_of, IsWorthOf}
 use Rattle.int_decide.specs.Decisions.{Decision, refuted, WhereRefuted}
 use Rattle.int_decide.specs.Decide.{decide}
 use Rattle.int_decide.specs.Numbers.{LeavesFit, DecideFits}
-use Rattle.int_decide.specs.Searching.{EliminationsFit, IsClosed}
+use Rattle.int_decide.specs.Ties.Searching.{EliminationsFit, IsClosed}
 use Rattle.int_decide.proofs.FewCuts.{decided_is_tree}
 use Rattle.int_decide.proofs.Refuting.{refuted_fits}
 

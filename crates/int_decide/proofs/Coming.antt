@@ -20,7 +20,7 @@ use Rattle.int_decide.specs.Decisions.{Decision, refuted, whole, gap, beside, Un
 use Rattle.int_decide.specs.Decide.{first_broken, decide_groups, decide}
 use Rattle.int_decide.specs.Numbers.{GroupsFit, LeavesFit}
 use Rattle.int_decide.specs.Sizes.{total, over_groups, group_count, extent, SystemBelow}
-use Rattle.int_decide.specs.Searching.{Task, Standing, standing_of, values_if, whole_outcome, whole_groups, StepFits, Goes, IsMet, Takes, TakesNone, IsReady, found_by, decide_task, TaskFits, EliminationsFit, SomeMet, IsSound, HasCome, steps_left, IsClosed, IsPoint}
+use Rattle.int_decide.specs.Ties.Searching.{Task, Standing, standing_of, values_if, whole_outcome, whole_groups, StepFits, Goes, IsMet, Takes, TakesNone, IsReady, found_by, decide_task, TaskFits, EliminationsFit, SomeMet, IsSound, HasCome, steps_left, IsClosed, IsPoint}
 use Rattle.int_decide.proofs.DecisionLaws.{nothing_beside, beside_nothing}
 use Rattle.int_decide.proofs.Opening.{group_count_opened, extent_opened, SystemBelow_open}
 use Rattle.int_decide.proofs.Tight.{hold_untightened}

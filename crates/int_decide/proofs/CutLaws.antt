@@ -9,7 +9,7 @@ use Rattle.farkas_check.proofs.NodeLaws.{plain_from, plain_none}
 use Rattle.farkas_check.specs.Refutes.{Refutes}
 use Rattle.farkas_check.specs.Trees.{Tree, leaf_tree, cut_tree, cases_tree, Trees, no_tree, one_more, tree_count, prefix_of, prefixes_of, IsPrefixList, cuts_on_branch, most_cuts}
 use Rattle.int_decide.specs.Answers.{RefutesWithin}
-use Rattle.int_decide.specs.CutCounts.{after_node, is_no_tree, goes_on, have_few_cuts}
+use Rattle.int_decide.specs.Ties.CutCounts.{after_node, is_no_tree, goes_on, have_few_cuts}
 
 mutual
   tree_cuts : (t : Tree) (l : ℕ) (ls : List ℕ) (ns : List PlainNode) → have_few_cuts (l ∷ ls) (prefix_of t ++ ns) ≡ true →

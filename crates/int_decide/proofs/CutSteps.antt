@@ -2,7 +2,7 @@
 use Rattle.std.proofs.Common.{◌≡◌, ℕ, suc, ℤ, List, [], ◌∷◌, ◌++◌, Option, Some, reverse, sym, ap, ◌∙◌}
 use Rattle.std.proofs.lemmas.List.{reverse-append}
 use Rattle.farkas_check.specs.Nodes.{leaf, cut}
-use Rattle.int_decide.specs.CutCounts.{after_node}
+use Rattle.int_decide.specs.Ties.CutCounts.{after_node}
 
 pub pass_leaf : (parts : List (ℕ × ℤ)) (left : ℕ) (old popped : List ℕ) → old ≡ popped ++ left ∷ [] → after_node (reverse old) (leaf parts) ≡ Some (reverse popped)
 pass_leaf parts left old popped e = ap (λ (ls : List ℕ). after_node ls (leaf parts)) (ap reverse e ∙ reverse-append popped (left ∷ []))

@@ -28,3 +28,4 @@ mod SearchSteps
 mod ShownValues
 mod CutSteps
 pub mod RationalPoints
+pub mod DifferenceRows

@@ -9,7 +9,7 @@ use Rattle.lin_rows.specs.Points.{point_of}
 use Rattle.fm_elim.specs.Values.{value_at}
 use Rattle.fm_elim.specs.Slices.{IsPoint}
 use Rattle.fm_elim.specs.Worth.{HoldsAt}
-use Rattle.int_decide.specs.Picking.{IsOver, AreOver}
+use Rattle.int_decide.specs.Ties.Picking.{IsOver, AreOver}
 
 over_more : (d : ℤ) (fs : List Fraction) (ps : List ℤ) (f : Fraction) (p : ℤ) → AreOver d fs ps → IsOver d f p → AreOver d (fs ++ f ∷ []) (ps ++ p ∷ [])
 over_more d [] [] f p h o = (o, tt)

@@ -20,9 +20,9 @@ use Rattle.fm_elim.proofs.Multipliers.{less_is, not_less_is}
 use Rattle.fm_elim.proofs.Picks.{zero_on_way}
 use Rattle.fm_elim.proofs.PickedPoints.{point_is_picked}
 use Rattle.int_decide.specs.Decide.{first_broken}
-use Rattle.int_decide.specs.Searching.{cut_at, values_if}
-use Rattle.int_decide.specs.Picking.{fixed, IsNearest, IsApart, IfWhole, ArePicked}
-use Rattle.int_decide.specs.Alike.{AreAlike, StandsIn}
+use Rattle.int_decide.specs.Ties.Searching.{cut_at, values_if}
+use Rattle.int_decide.specs.Ties.Picking.{fixed, IsNearest, IsApart, IfWhole, ArePicked}
+use Rattle.int_decide.specs.Ties.Alike.{AreAlike, StandsIn}
 use Rattle.int_decide.proofs.Broken.{floor_is}
 
 -- ---- whole values in front

@@ -16,7 +16,7 @@ use Rattle.fm_elim.proofs.Inputs.{IsBelow-tightened}
 use Rattle.fm_elim.proofs.Lists.{all_map}
 use Rattle.int_decide.specs.Decisions.{gap}
 use Rattle.int_decide.specs.Decide.{first_broken, by_outcome, decide_rows, decide_groups, decide}
-use Rattle.int_decide.specs.Searching.{cut_at}
+use Rattle.int_decide.specs.Ties.Searching.{cut_at}
 use Rattle.int_decide.specs.Sizes.{group_count, SystemBelow}
 use Rattle.int_decide.specs.WithoutCuts.{IsNotRefuted}
 use Rattle.int_decide.specs.Worth.{IsRefuted}

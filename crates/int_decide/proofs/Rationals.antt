@@ -12,7 +12,7 @@ use Rattle.lin_rows.specs.Rows.{LinearRow, Stands}
 use Rattle.lin_rows.specs.Sums.{sum_kind, CanScale, scaled_sum}
 use Rattle.lin_rows.proofs.HoldsLaws.{holds-scaled_sum}
 use Rattle.fm_elim.specs.Worth.{IsSolvable}
-use Rattle.int_decide.specs.Picking.{Implies}
+use Rattle.int_decide.specs.Ties.Picking.{Implies}
 
 -- `0 = 0` follows
 pub nothing_implied : (rows : List LinearRow) (r : LinearRow) → r ≡ record { terms = []; kind = Eq; bound = pos 0 } → Implies rows r

@@ -10,9 +10,9 @@ use Rattle.farkas_check.specs.Walks.{goal_at_hand, goals_left}
 use Rattle.farkas_check.specs.Refutes.{at_most, above, with_row}
 use Rattle.fm_elim.specs.Worth.{IsSolvable}
 use Rattle.int_decide.specs.declared.search.Search.{Search}
-use Rattle.int_decide.specs.Picking.{IsApart}
-use Rattle.int_decide.specs.Searching.{Task, tasks, standing_of, IsPaired, after_broken, after_groups, whole_groups, StepFits, Opens, Goes}
-use Rattle.int_decide.specs.Alike.{StandsAfter, GoesOn}
+use Rattle.int_decide.specs.Ties.Picking.{IsApart}
+use Rattle.int_decide.specs.Ties.Searching.{Task, tasks, standing_of, IsPaired, after_broken, after_groups, whole_groups, StepFits, Opens, Goes}
+use Rattle.int_decide.specs.Ties.Alike.{StandsAfter, GoesOn}
 
 -- ---- a goal is cut
 

@@ -9,7 +9,7 @@ use Rattle.lin_rows.specs.declared.types.RowKind.{RowKind}
 use Rattle.lin_rows.specs.declared.types.RowKind.TheVariants.{Le, Eq}
 use Rattle.lin_rows.specs.Rows.{LinearRow, Stands}
 use Rattle.fm_elim.specs.Worth.{HoldsAt}
-use Rattle.int_decide.specs.Picking.{fixed, IsNearest, ArePicked}
+use Rattle.int_decide.specs.Ties.Picking.{fixed, IsNearest, ArePicked}
 use Rattle.int_decide.proofs.PickedValues.{nearest_picked}
 
 le_from : (a b : ℤ) → IsTrue (int_le a b) → a ≤ℤ b

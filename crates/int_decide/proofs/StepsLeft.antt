@@ -7,7 +7,7 @@ use Rattle.lin_rows.specs.Systems.{groups_of}
 use Rattle.farkas_check.specs.Refutes.{goal_with_member}
 use Rattle.fm_elim.proofs.Lists.{all_both}
 use Rattle.int_decide.specs.Sizes.{total, over_groups, group_count}
-use Rattle.int_decide.specs.Searching.{Task, opened, cut_count, step_count, goal_groups, steps_left}
+use Rattle.int_decide.specs.Ties.Searching.{Task, opened, cut_count, step_count, goal_groups, steps_left}
 use Rattle.int_decide.proofs.Enough.{left_for_each}
 
 total_same : {X : Type 0} (a b : X → ℕ) (R : X → Type 0) (xs : List X) → ((x : X) → R x → a x ≡ b x) → AllByRecursion R xs → total a xs ≡ total b xs

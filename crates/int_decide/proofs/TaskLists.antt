@@ -8,7 +8,7 @@ use Rattle.farkas_check.specs.Walks.{goal_at_hand, goals_left, OpensGroup}
 use Rattle.farkas_check.specs.Refutes.{Goal, goal_with_member}
 use Rattle.int_decide.specs.declared.search.Search.{Search}
 use Rattle.int_decide.specs.Sizes.{total, extent}
-use Rattle.int_decide.specs.Searching.{Task, tasks, IsPaired, opened, goal_extent, Opens}
+use Rattle.int_decide.specs.Ties.Searching.{Task, tasks, IsPaired, opened, goal_extent, Opens}
 
 -- ---- numbers
 

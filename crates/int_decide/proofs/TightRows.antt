@@ -4,7 +4,7 @@ use Rattle.std.specs.List.{AllByRecursion}
 use Rattle.lin_rows.specs.Rows.{LinearRow}
 use Rattle.lin_rows.specs.Tightening.{tightened}
 use Rattle.farkas_check.specs.Refutes.{at_most, above}
-use Rattle.int_decide.specs.Searching.{StaysTight}
+use Rattle.int_decide.specs.Ties.Searching.{StaysTight}
 use Rattle.int_decide.proofs.Tight.{tightened_twice, at_most_is_tight, above_is_tight}
 
 -- rows once tightened

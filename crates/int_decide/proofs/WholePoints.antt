@@ -13,7 +13,7 @@ use Rattle.farkas_check.specs.Walks.{goal_at_hand}
 use Rattle.farkas_check.specs.Refutes.{Goal}
 use Rattle.int_decide.specs.declared.search.Search.{Search}
 use Rattle.int_decide.specs.Decide.{first_broken}
-use Rattle.int_decide.specs.Searching.{Task, Standing, standing_of, values_if, whole_outcome, whole_groups, whole_at, after_values, after_outcome, after_groups, StepFits, StepIsWorth, OpensNone, Breaks, IsWholePoint, Goes, IsMet}
+use Rattle.int_decide.specs.Ties.Searching.{Task, Standing, standing_of, values_if, whole_outcome, whole_groups, whole_at, after_values, after_outcome, after_groups, StepFits, StepIsWorth, OpensNone, Breaks, IsWholePoint, Goes, IsMet}
 use Rattle.int_decide.proofs.Points.{whole_meets_all}
 
 -- a value for each column, and they meet the rows

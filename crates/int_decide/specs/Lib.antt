@@ -4,8 +4,6 @@ pub mod Sizes
 pub mod Numbers
 pub mod Worth
 pub mod Answers
-pub mod Searching
-pub mod CutCounts
-pub mod Picking
-pub mod Alike
 pub mod WithoutCuts
+pub mod DifferenceRows
+pub mod Ties

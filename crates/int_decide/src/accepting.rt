@@ -3,7 +3,7 @@
 ghost use Rattle.std.specs.Prelude.{◌≡◌, [], ◌∷◌, IfOk, IfSome, SomeIff, MatchBool, None, Some, reverse};
 ghost use Rattle.farkas_check.specs.Nodes.{plain, plain_nodes};
 ghost use Rattle.int_decide.specs.Answers.{RefutesWithin};
-ghost use Rattle.int_decide.specs.CutCounts.{after_node, have_few_cuts};
+ghost use Rattle.int_decide.specs.Ties.CutCounts.{after_node, have_few_cuts};
 
 use crate::search::push_copies;
 use farkas_check::{Node, Refutation, check, tree};

@@ -4,12 +4,12 @@ ghost use Rattle.std.specs.Prelude.{◌≡◌, ◌+◌, ◌<◌, ◌^◌, Err, I
 ghost use Rattle.farkas_check.specs.Nodes.{plain_nodes, is_tree};
 ghost use Rattle.farkas_check.specs.Refutes.{Refutes};
 ghost use Rattle.fm_elim.specs.Answers.{Exactly};
-ghost use Rattle.int_decide.specs.Alike.{EndsAlike};
+ghost use Rattle.int_decide.specs.Ties.Alike.{EndsAlike};
 ghost use Rattle.int_decide.specs.Answers.{decision_of, IsWorthOf, OfRefuted, OfWhole, RefutesWithin, IsDecided};
 ghost use Rattle.int_decide.specs.Decide.{decide};
 ghost use Rattle.int_decide.specs.Decisions.{refuted, gap};
 ghost use Rattle.int_decide.specs.Numbers.{DecideFits};
-ghost use Rattle.int_decide.specs.Searching.{EliminationsFit, Ends};
+ghost use Rattle.int_decide.specs.Ties.Searching.{EliminationsFit, Ends};
 ghost use Rattle.int_decide.specs.Sizes.{extent, SystemBelow};
 
 use crate::accepting::accepted;

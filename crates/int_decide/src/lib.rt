@@ -4,6 +4,7 @@
 
 mod accepting;
 mod deciding;
+pub mod difference_rows;
 mod laws;
 mod measuring;
 mod meeting;

@@ -5,7 +5,7 @@ ghost use Rattle.std.specs.List.{AllByRecursion};
 ghost use Rattle.lin_rows.specs.Points.{point_of};
 ghost use Rattle.fm_elim.specs.Slices.{IsPoint};
 ghost use Rattle.fm_elim.specs.Worth.{HoldsAt};
-ghost use Rattle.int_decide.specs.Picking.{IsOver, AreOver};
+ghost use Rattle.int_decide.specs.Ties.Picking.{IsOver, AreOver};
 
 use frac::{Frac, den, num};
 use lin_rows::{Row, RowKind, sum_at};

@@ -7,8 +7,8 @@ ghost use Rattle.lin_rows.specs.Tightening.{tightened};
 ghost use Rattle.farkas_check.specs.Refutes.{at_most, above};
 ghost use Rattle.fm_elim.specs.Answers.{outcome_of};
 ghost use Rattle.fm_elim.specs.Worth.{IsSolvable};
-ghost use Rattle.int_decide.specs.Alike.{StandsIn};
-ghost use Rattle.int_decide.specs.Picking.{Implies, fixed, IsNearest, IsApart, ArePicked};
+ghost use Rattle.int_decide.specs.Ties.Alike.{StandsIn};
+ghost use Rattle.int_decide.specs.Ties.Picking.{Implies, fixed, IsNearest, IsApart, ArePicked};
 
 use crate::meeting::is_met;
 use crate::proposing::pivots_for;

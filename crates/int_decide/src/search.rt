@@ -8,7 +8,7 @@ ghost use Rattle.math_facts.specs.Fits.{Fits};
 ghost use Rattle.farkas_check.specs.Refutes.{goal_of};
 ghost use Rattle.farkas_check.specs.Walks.{goal_at_hand};
 ghost use Rattle.fm_elim.specs.Answers.{Exactly};
-ghost use Rattle.int_decide.specs.Searching.{Task, Standing, goal_extent, StepFits, IsWholePoint, IsMet};
+ghost use Rattle.int_decide.specs.Ties.Searching.{Task, Standing, goal_extent, StepFits, IsWholePoint, IsMet};
 
 use crate::picking::picked_outcome;
 use crate::values::{first_broken, numerators};
@@ -41,9 +41,9 @@ pub(crate) struct Search<'a> {
 }
 
 impl<'a> Search<'a> {
-    ghost use Rattle.int_decide.specs.Searching.{standing_of, IsPaired, Opens, OpensNone, Takes, TakesNone, Breaks, Goes};
-    ghost use Rattle.int_decide.specs.Searching.{after_broken};
-    ghost use Rattle.int_decide.specs.Alike.{Steps};
+    ghost use Rattle.int_decide.specs.Ties.Searching.{standing_of, IsPaired, Opens, OpensNone, Takes, TakesNone, Breaks, Goes};
+    ghost use Rattle.int_decide.specs.Ties.Searching.{after_broken};
+    ghost use Rattle.int_decide.specs.Ties.Alike.{Steps};
 
     /// The search with one goal, that of the system.
     pub(crate) fn new(alloc: Global, system: &'a System, depth: u32) -> Result<Self, AllocError>

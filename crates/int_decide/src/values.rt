@@ -6,7 +6,7 @@ ghost use Rattle.math_facts.specs.Fits.{Fits};
 ghost use Rattle.frac.specs.Fractions.{IsFraction};
 ghost use Rattle.lin_rows.specs.Negating.{below_opposite};
 ghost use Rattle.int_decide.specs.Decide.{first_broken};
-ghost use Rattle.int_decide.specs.Searching.{cut_at};
+ghost use Rattle.int_decide.specs.Ties.Searching.{cut_at};
 
 use frac::{Frac, den, floor, num};
 use std::alloc::{AllocError, Global};

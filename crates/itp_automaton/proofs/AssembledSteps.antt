@@ -8,7 +8,7 @@ use Rattle.triple_rows.specs.declared.triples.Scoped.{Scoped}
 use Rattle.triple_rows.specs.Proofs.{PlainProof}
 use Rattle.itp_automaton.specs.Settling.{NamesStates}
 use Rattle.itp_automaton.specs.Certified.{IsCertified}
-use Rattle.itp_automaton.specs.Edges.{IsBuilt}
+use Rattle.itp_automaton.specs.Ties.Edges.{IsBuilt}
 
 pub built_over : (g : Graph) (lent states : List Scoped) (lent_proofs proofs : List PlainProof) (o : Option Automaton) (m : Automaton) → lent ≡ states → lent_proofs ≡ proofs → o ≡ Some m →
     IfSome o (IsBuilt g lent lent_proofs) → IsBuilt g states proofs m

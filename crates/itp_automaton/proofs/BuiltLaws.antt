@@ -21,7 +21,7 @@ use Rattle.triple_rows.specs.Proofs.{PlainProof}
 use Rattle.triple_rows.proofs.ValidLaws.{refuted_valid}
 use Rattle.itp_automaton.specs.Certified.{IsTruthAt, ProvesTriple, IsCertified}
 use Rattle.itp_automaton.specs.Making.{HasEdge}
-use Rattle.itp_automaton.specs.Edges.{IsFalseAt, MarksFalse, IsMarkedBelow, IsBegun, IsInsideOf, IsCallOf, IsBackOf, IsBuilt, AddsInside, AddsCall, AddsBack, AddsEdge}
+use Rattle.itp_automaton.specs.Ties.Edges.{IsFalseAt, MarksFalse, IsMarkedBelow, IsBegun, IsInsideOf, IsCallOf, IsBackOf, IsBuilt, AddsInside, AddsCall, AddsBack, AddsEdge}
 
 -- ---- what stays where a proof is added
 

@@ -17,7 +17,7 @@ use Rattle.hoare_check.specs.Decided.{IsProofFor}
 use Rattle.itp_automaton.specs.Certified.{Certificate}
 use Rattle.itp_automaton.specs.Making.{named_in, IsStateFor, NameStatesFor, AreStates, HasStates}
 use Rattle.itp_automaton.specs.Settling.{NamesStates}
-use Rattle.itp_automaton.specs.Edges.{IsBuilt}
+use Rattle.itp_automaton.specs.Ties.Edges.{IsBuilt}
 
 -- the predicate's procedure exists
 abbrev Exists : Alphabet → Scoped → Type 0

@@ -19,7 +19,7 @@ use Rattle.triple_rows.specs.declared.triples.Triple.{Triple}
 use Rattle.triple_rows.specs.declared.triples.Triple.TheVariants as triples
 use Rattle.triple_rows.specs.Triples.{InsideAgrees, CallAgrees, Agrees, truth_of}
 use Rattle.triple_rows.specs.Proofs.{PlainProof}
-use Rattle.nested_predicates.specs.Interpolants.{letter_triple, saved_after, triples_along, BeginsTrue, EndsFalse}
+use Rattle.nested_itp.specs.NestedPredicates.Interpolants.{letter_triple, saved_after, triples_along, BeginsTrue, EndsFalse}
 use Rattle.hoare_check.specs.Decided.{IsProofFor}
 use Rattle.itp_automaton.specs.Certified.{Certificate}
 use Rattle.itp_automaton.specs.Making.{named_in, IsStateFor, NameStatesFor, HasStates, HasEdge, HasEdges}

@@ -18,7 +18,7 @@ use Rattle.itp_automaton.specs.Certified.{Certificate}
 use Rattle.itp_automaton.specs.Saturated.{IsSaturated, HasTruth}
 use Rattle.itp_automaton.specs.Making.{NameStatesFor, AreStates, HasInside, HasCall, HasBack, HasEdge, HasEdges}
 use Rattle.itp_automaton.specs.Settling.{NamesStates, IsGrounded, SettledBelow, letter_in}
-use Rattle.itp_automaton.specs.Edges.{IsBuilt}
+use Rattle.itp_automaton.specs.Ties.Edges.{IsBuilt}
 use Rattle.itp_automaton.proofs.StateLaws.{member_at, place_of, one_place}
 use Rattle.itp_automaton.proofs.EdgeLaws.{place_below}
 use Rattle.itp_automaton.proofs.MakingLaws.{named_alike}

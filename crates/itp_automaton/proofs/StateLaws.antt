@@ -9,7 +9,7 @@ use Rattle.triple_rows.specs.declared.predicates.PredNode.TheVariants.{Truth}
 use Rattle.triple_rows.specs.declared.triples.Scoped.{Scoped}
 use Rattle.itp_automaton.specs.Making.{AreStates}
 use Rattle.triple_rows.specs.Triples.{truth_of}
-use Rattle.itp_automaton.specs.States.{AddsState, truths_below}
+use Rattle.itp_automaton.specs.Ties.States.{AddsState, truths_below}
 
 -- ---- members by their places
 

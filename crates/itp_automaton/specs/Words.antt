@@ -6,7 +6,7 @@ use Rattle.letter_acts.specs.Invariant.{Graph, alphabet_of}
 use Rattle.triple_rows.specs.declared.triples.Scoped.{Scoped}
 use Rattle.triple_rows.specs.Proofs.{PlainProof}
 use Rattle.hoare_check.specs.Decided.{IsProofFor}
-use Rattle.nested_predicates.specs.Interpolants.{triples_along, BeginsTrue, EndsFalse}
+use Rattle.nested_itp.specs.NestedPredicates.Interpolants.{triples_along, BeginsTrue, EndsFalse}
 
 -- a predicate for each position of the word, the first true and the last false, and for each letter a proof of the triple
 -- between them, of three places at returns

@@ -10,7 +10,7 @@ ghost use Rattle.hoare_check.specs.Decided.{IsProofFor};
 ghost use Rattle.triple_rows.specs.Triples.{truth_of};
 ghost use Rattle.itp_automaton.specs.Settling.{NamesStates};
 ghost use Rattle.itp_automaton.specs.Certified.{IsCertified};
-ghost use Rattle.itp_automaton.specs.Edges.{MarksFalse, IsBuilt};
+ghost use Rattle.itp_automaton.specs.Ties.Edges.{MarksFalse, IsBuilt};
 
 use crate::automata::Certified;
 use crate::edges::{add_edge, added};

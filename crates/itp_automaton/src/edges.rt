@@ -5,7 +5,7 @@ ghost use Rattle.letter_acts.specs.Invariant.{alphabet_of};
 ghost use Rattle.triple_rows.specs.declared.triples.Triple.TheVariants as triples;
 ghost use Rattle.triple_rows.specs.Triples.{Agrees};
 ghost use Rattle.itp_automaton.specs.Settling.{NamesStates};
-ghost use Rattle.itp_automaton.specs.Edges.{AddsInside, AddsCall, AddsBack, AddsEdge};
+ghost use Rattle.itp_automaton.specs.Ties.Edges.{AddsInside, AddsCall, AddsBack, AddsEdge};
 
 use crate::finding::Predicates;
 use crate::letters::letter_at;

@@ -5,7 +5,7 @@ ghost use Rattle.nwa_base.specs.Members.{Member};
 ghost use Rattle.triple_rows.specs.Predicates.{SpellsPredicate};
 ghost use Rattle.itp_automaton.specs.Making.{AreStates};
 ghost use Rattle.triple_rows.specs.Triples.{truth_of};
-ghost use Rattle.itp_automaton.specs.States.{AddsState, truths_below};
+ghost use Rattle.itp_automaton.specs.Ties.States.{AddsState, truths_below};
 
 use crate::finding::Predicates;
 use std::alloc::{AllocError, Global};

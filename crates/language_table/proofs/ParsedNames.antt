@@ -7,7 +7,7 @@ use Rattle.boogie_tree.specs.declared.tree.Name.{Name}
 use Rattle.boogie_tree.specs.declared.tree.Vary.{Vary}
 use Rattle.boogie_tree.specs.Tree.{Declaration, Const, Global, Axiom, Declares, Implements, Procedure, ProcedureBody}
 use Rattle.boogie_tree.specs.Names.{is_digit, is_name_byte, is_name}
-use Rattle.boogie_parse.specs.PrintedTokens.{IsFreeWord, AreSpellableVariables, IsSpellableBody, IsSpellableProcedure, IsSpellableProgram}
+use Rattle.boogie_parse.specs.Spelling.PrintedTokens.{IsFreeWord, AreSpellableVariables, IsSpellableBody, IsSpellableProcedure, IsSpellableProgram}
 use Rattle.boogie_types.specs.Sorted.{global_names, procedures_of, implementations_of, procedure_names, variable_names, body_locals}
 use Rattle.boogie_types.specs.Resolved.{are_named}
 use Rattle.boogie_types.proofs.ShapeLists.{all_append}

@@ -2,7 +2,7 @@
 
 ghost use Rattle.std.specs.Prelude.{◌+◌, ◌<◌, ◌^◌, length, IfSome};
 ghost use Rattle.boogie_tree.specs.View.{program as tree};
-ghost use Rattle.boogie_parse.specs.PrintedTokens.{IsSpellableProgram};
+ghost use Rattle.boogie_parse.specs.Spelling.PrintedTokens.{IsSpellableProgram};
 
 use crate::texts::{bytes_of, put, put_bytes, put_no_memory, put_number};
 use boogie_parse::{Fault, Token, TokenKind, lex, parse};

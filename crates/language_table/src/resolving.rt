@@ -1,15 +1,15 @@
 //! Programs with their names resolved.
 
 ghost use Rattle.boogie_tree.specs.View.{program as tree};
-ghost use Rattle.boogie_parse.specs.PrintedTokens.{IsSpellableProgram};
+ghost use Rattle.boogie_parse.specs.Spelling.PrintedTokens.{IsSpellableProgram};
 
 use crate::parsing::parsed;
 use crate::rules::show_counts;
 use crate::texts::{put, put_bytes, put_number};
 use boogie_tree::{Column, Program, Span};
 use boogie_types::resolve;
+use typed_tree::typing_rules::Typed;
 use typed_tree::{TExpr, TExprKind, TProc, TStmt};
-use typing_rules::Typed;
 
 /// The typed program that a program is; where it is none, the rule that it breaks is printed.
 fn name_resolved(rt: &HostRuntime, entry: &str, program: Program) -> Option<Typed>

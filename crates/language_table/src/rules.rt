@@ -5,8 +5,8 @@ use crate::texts::{put, put_no_memory, put_number};
 use boogie_tree::{Column, Span, Text, VarInfo};
 use std::alloc::{AllocError, Global};
 use table_reading::{first_word, number, numbers};
+use typed_tree::typing_rules::{Typed, check_typing, typed};
 use typed_tree::{TExpr, TExprKind, TGuard, TProc, TStmt};
-use typing_rules::{Typed, check_typing, typed};
 
 const HERE: Span = Span { line: 1, col: 1 };
 

@@ -6,7 +6,7 @@ use crate::resolving::resolved;
 use crate::texts::{put, put_no_memory};
 use boogie_run::{Choice, Config, Moved, Need, RunFault, needs, start, step};
 use table_reading::values;
-use typing_rules::Typed;
+use typed_tree::typing_rules::Typed;
 
 fn show_outcome(rt: &HostRuntime, outcome: &Result<Moved, RunFault>) {
     let _ = match outcome {

@@ -1,17 +1,17 @@
 //! Walks through the points of procedures.
 
 ghost use Rattle.std.specs.Prelude.{◌≡◌};
-ghost use Rattle.typing_rules.specs.TypedParts.{typed_program};
-ghost use Rattle.boogie_points.specs.Numbered.{numbers_of};
-ghost use Rattle.boogie_points.specs.Room.{PointHasRoom};
-ghost use Rattle.boogie_points.specs.View.{point_of};
+ghost use Rattle.typed_tree.specs.TypingRules.TypedParts.{typed_program};
+ghost use Rattle.boogie_run.specs.BoogiePoints.Numbered.{numbers_of};
+ghost use Rattle.boogie_run.specs.BoogiePoints.Room.{PointHasRoom};
+ghost use Rattle.boogie_run.specs.BoogiePoints.View.{point_of};
 
 use crate::resolving::resolved;
 use crate::texts::{put, put_no_memory, put_number};
-use boogie_points::*;
+use boogie_run::boogie_points::*;
 use boogie_tree::Column;
 use table_reading::{first_word, number};
-use typing_rules::Typed;
+use typed_tree::typing_rules::Typed;
 
 /// A column behind what happens with it.
 fn show_column(rt: &HostRuntime, before: &str, column: Column) {

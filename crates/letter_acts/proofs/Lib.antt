@@ -19,3 +19,5 @@ pub mod LayoutLemmas
 pub mod FramesLemmas
 pub mod DistinctLemmas
 pub mod SharedNames
+pub mod LetterTable
+pub mod FrameRows

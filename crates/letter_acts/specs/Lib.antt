@@ -11,3 +11,5 @@ pub mod Kept
 pub mod Parts
 pub mod Checks
 pub mod Widths
+pub mod LetterTable
+pub mod FrameRows

@@ -5,9 +5,11 @@
 mod acts;
 mod checks;
 mod finding;
+pub mod frame_rows;
 mod frames;
 mod graphs;
 pub mod laws;
+pub mod letter_table;
 mod making;
 mod parts;
 mod sites;

@@ -8,8 +8,8 @@ use Rattle.math_facts.specs.Fits.{Fits}
 use Rattle.math_facts.specs.Terms.{coefficient}
 use Rattle.math_facts.proofs.TermLaws.{coefficient-append}
 use Rattle.lin_rows.specs.Rows.{AscendsFrom, IsCoefficient}
-use Rattle.lin_rows.specs.Merging.{AreTerms, ColumnFits, AreMerged}
-use Rattle.lin_rows.specs.Making.{TermsFit, AreSummed}
+use Rattle.lin_rows.specs.Ties.Merging.{AreTerms, ColumnFits, AreMerged}
+use Rattle.lin_rows.specs.Ties.Making.{TermsFit, AreSummed}
 use Rattle.lin_rows.proofs.Ascending.{coefficient_first, coefficient_rest, Fits-from_columns}
 
 -- ---- the stretch in front

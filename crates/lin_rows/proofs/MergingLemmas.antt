@@ -10,7 +10,7 @@ use Rattle.math_facts.proofs.Whole.{product_zero_right}
 use Rattle.math_facts.proofs.TermLaws.{coefficient-append}
 use Rattle.lin_rows.specs.Rows.{AscendsFrom, IsCoefficient}
 use Rattle.lin_rows.specs.Sums.{is_zero, led_by}
-use Rattle.lin_rows.specs.Merging.{least_column, after_column, ColumnFits, AreMerged}
+use Rattle.lin_rows.specs.Ties.Merging.{least_column, after_column, ColumnFits, AreMerged}
 use Rattle.lin_rows.proofs.Ascending.{coefficient_below, coefficient_first, coefficient_rest, AscendsFrom_less, AscendsFrom-suffix, AscendsFrom-join}
 
 -- ---- the front of one list

@@ -8,8 +8,8 @@ use Rattle.math_facts.specs.Terms.{coefficient, scaled}
 use Rattle.lin_rows.specs.declared.types.RowKind.{RowKind}
 use Rattle.lin_rows.specs.Rows.{LinearRow, IsCoefficient, IsRow}
 use Rattle.lin_rows.specs.Sums.{summed, row_of, SumsFit, sum_kind, scaled_sum}
-use Rattle.lin_rows.specs.Merging.{AreTerms, AreMerged}
-use Rattle.lin_rows.specs.Making.{AreSummed}
+use Rattle.lin_rows.specs.Ties.Merging.{AreTerms, AreMerged}
+use Rattle.lin_rows.specs.Ties.Making.{AreSummed}
 use Rattle.lin_rows.proofs.Ascending.{HasNoZero, same_from_coefficients, Fits-from_columns}
 use Rattle.lin_rows.proofs.SummedLaws.{coefficient-summed, AscendsFrom-summed, HasNoZero-summed, summed_from_coefficients, scaled_sum_from_coefficients}
 

@@ -1,9 +1,8 @@
 pub mod Rows
 pub mod Sums
-pub mod Making
-pub mod Merging
 pub mod Tightening
 pub mod Combinations
 pub mod Negating
 pub mod Points
 pub mod Systems
+pub mod Ties

@@ -2,7 +2,7 @@ ghost use Rattle.std.specs.Prelude.{◌≡◌, ◌≤◌, ◌<◌, ◌↔◌, �
 ghost use Rattle.math_facts.specs.Terms.{coefficient, dot};
 ghost use Rattle.lin_rows.specs.Rows.{AscendsFrom, IsRow, Stands, Holds};
 ghost use Rattle.lin_rows.specs.Sums.{row_of, SumsFit};
-ghost use Rattle.lin_rows.specs.Making.{AreSummed, TermsFit};
+ghost use Rattle.lin_rows.specs.Ties.Making.{AreSummed, TermsFit};
 ghost use Rattle.lin_rows.specs.Systems.{groups_of, members_of, rows_of};
 
 use crate::merging::merged;

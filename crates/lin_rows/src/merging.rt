@@ -4,7 +4,7 @@ ghost use Rattle.std.specs.Prelude.{◌≡◌, ℕ, [], ◌++◌, IfOk, OnOk, Ma
 ghost use Rattle.math_facts.specs.Terms.{coefficient};
 ghost use Rattle.lin_rows.specs.Rows.{AscendsFrom};
 ghost use Rattle.lin_rows.specs.Sums.{led_by};
-ghost use Rattle.lin_rows.specs.Merging.{least_column, after_column, ColumnFits, AreMerged};
+ghost use Rattle.lin_rows.specs.Ties.Merging.{least_column, after_column, ColumnFits, AreMerged};
 
 use crate::numbers::plus_times;
 use crate::types::{Col, Terms};

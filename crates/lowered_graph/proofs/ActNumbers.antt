@@ -7,8 +7,8 @@ use Rattle.nwa_base.specs.Letters.{same_letter}
 use Rattle.nwa_base.proofs.LetterLemmas.{same_letter-refl}
 use Rattle.letter_acts.specs.Acts.{PlainAct, Alphabet, letter_of, named_act, act_of}
 use Rattle.letter_acts.specs.Invariant.{AreDistinct}
-use Rattle.letter_table.specs.Letters.{MarkedAct, same_marked, act_place_from, or_last, act_number, unless_there, with_act}
-use Rattle.letter_table.proofs.SameActs.{same_marked_so, same_marked_back}
+use Rattle.letter_acts.specs.LetterTable.Letters.{MarkedAct, same_marked, act_place_from, or_last, act_number, unless_there, with_act}
+use Rattle.letter_acts.proofs.LetterTable.SameActs.{same_marked_so, same_marked_back}
 use Rattle.lowered_graph.proofs.Lists.{before_or_last, get_front, get_member}
 
 -- ---- members of lists

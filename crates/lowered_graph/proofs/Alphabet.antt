@@ -8,7 +8,7 @@ use Rattle.letter_acts.specs.Frames.{Columns}
 use Rattle.letter_acts.specs.Acts.{PlainAct, inside_act, call_act, back_act, Alphabet, frame_of, letter_of, act_of}
 use Rattle.letter_acts.specs.Meaning.{InsideLeads, CallLeads, BackLeads, Situation, ActInside, ActCalls, ActReturns, ReturnsFrom}
 use Rattle.letter_acts.specs.Invariant.{alphabet_of}
-use Rattle.lowered_steps.specs.ProgramFrames.{frame_at}
+use Rattle.lowered_graph.specs.LoweredSteps.ProgramFrames.{frame_at}
 use Rattle.lowered_graph.specs.Lowered.{counted_procs, lowered}
 use Rattle.lowered_graph.proofs.ActNumbers.{act_of_letter}
 

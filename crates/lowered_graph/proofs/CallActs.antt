@@ -15,22 +15,22 @@ use Rattle.cond_jumps.specs.Forms.{linear_number, column}
 use Rattle.cond_jumps.specs.Comparisons.{equal, compared}
 use Rattle.cond_jumps.specs.Environments.{Environment}
 use Rattle.cond_jumps.specs.Frames.{frame_environment, fixed_in}
-use Rattle.free_products.specs.FreeProducts.{all_freed}
-use Rattle.free_products.specs.Letters.{MarkedConjunction}
-use Rattle.free_products.specs.FrameLetters.{widened, all_product_count}
-use Rattle.free_products.proofs.MeanLemmas.{all_freed_length}
+use Rattle.cond_jumps.specs.FreeProducts.FreeProducts.{all_freed}
+use Rattle.cond_jumps.specs.FreeProducts.Letters.{MarkedConjunction}
+use Rattle.cond_jumps.specs.FreeProducts.FrameLetters.{widened, all_product_count}
+use Rattle.cond_jumps.proofs.FreeProducts.MeanLemmas.{all_freed_length}
 use Rattle.boogie_run.specs.Needs.{locals_at, locals_if_any}
-use Rattle.typing_rules.specs.Rules.{results_of as results_of_procedure}
-use Rattle.lowered_steps.specs.ProgramFrames.{frame_at, width_at, column_number}
-use Rattle.lowered_steps.specs.Edges.{argument_sum, parameters_get, call_plan, call_letters, columns_before_locals, numbers_in, local_count}
-use Rattle.lowered_steps.specs.Moves.{AreArguments, AreTargets, HasParameters}
-use Rattle.lowered_steps.specs.Stacks.{IsAmong}
+use Rattle.typed_tree.specs.TypingRules.Rules.{results_of as results_of_procedure}
+use Rattle.lowered_graph.specs.LoweredSteps.ProgramFrames.{frame_at, width_at, column_number}
+use Rattle.lowered_graph.specs.LoweredSteps.Edges.{argument_sum, parameters_get, call_plan, call_letters, columns_before_locals, numbers_in, local_count}
+use Rattle.lowered_graph.specs.LoweredSteps.Moves.{AreArguments, AreTargets, HasParameters}
+use Rattle.lowered_graph.specs.LoweredSteps.Stacks.{IsAmong}
 use Rattle.lowered_graph.proofs.NamedColumns.{RowsName, AreNamed, IsNamed, SumNames, ListNames, EachNames, column_names, equal_names, minus_names, PlanNames, with_names, always_names, linear_names}
 use Rattle.lowered_graph.proofs.FrameTargets.{local_place, AreStanding, target_stands, targets_stand, stands_type, standing_targets, standing_distinct}
 use Rattle.lowered_graph.proofs.EdgeActs.{wide_length, frame_names, each_wider}
 use Rattle.lowered_graph.proofs.LetterNames.{LettersName, letters_name}
-use Rattle.lowered_steps.proofs.Enters.{width_is}
-use Rattle.lowered_steps.proofs.Goodness.{take_at_most}
+use Rattle.lowered_graph.proofs.LoweredSteps.Enters.{width_is}
+use Rattle.lowered_graph.proofs.LoweredSteps.Goodness.{take_at_most}
 use Rattle.lowered_graph.proofs.Lists.{get_behind}
 use Rattle.letter_acts.proofs.ListLemmas.{all_weaker}
 use Rattle.lowered_graph.proofs.StartLetter.{globals_count}

@@ -4,11 +4,11 @@ use Rattle.std.specs.Prelude.{slice_get, take}
 use Rattle.boogie_tree.specs.declared.span.Span.{Span}
 use Rattle.boogie_tree.specs.declared.tree.Column.{Column}
 use Rattle.typed_tree.specs.TypedTree.{TypedExpression, TypedGuard, Any, Cond, TypedInvariant, TypedStatement, Assert, Assume, Havoc, Assign, Call, If, While, Break, Goto, Return, Label, TypedBlock, Empty, Then, TypedProcedure, TypedProgram}
-use Rattle.boogie_points.specs.Points.{Todo, Start, Entry, Body, Exit, Stage, Point, at_exit, before, settled, past}
-use Rattle.boogie_points.specs.Actions as actions
-use Rattle.boogie_points.specs.Actions.{Action, next_part, action_at, stage_action, body_or_leave, procedure_action, start_action, entry_action, exit_action, body_action, block_action, statement_action, checked, guarded, head_action, havoc_action, one_of, ways_to, call_if_any, call_action, called_action, unseen_action, free_conditions, ensured_conditions, start_conditions, plain_conditions, chosen_columns, first_assertion, first_place, first_point}
-use Rattle.boogie_places.specs.Places.{parts_from, at_statement, points_in, points_of, points_of_body, IsOneOf}
-use Rattle.typing_rules.specs.Counts.{plain_invariants, assertions, points, block_assertions, block_points, checked_at_call}
+use Rattle.boogie_run.specs.BoogiePoints.Points.{Todo, Start, Entry, Body, Exit, Stage, Point, at_exit, before, settled, past}
+use Rattle.boogie_run.specs.BoogiePoints.Actions as actions
+use Rattle.boogie_run.specs.BoogiePoints.Actions.{Action, next_part, action_at, stage_action, body_or_leave, procedure_action, start_action, entry_action, exit_action, body_action, block_action, statement_action, checked, guarded, head_action, havoc_action, one_of, ways_to, call_if_any, call_action, called_action, unseen_action, free_conditions, ensured_conditions, start_conditions, plain_conditions, chosen_columns, first_assertion, first_place, first_point}
+use Rattle.boogie_run.specs.BoogiePlaces.Places.{parts_from, at_statement, points_in, points_of, points_of_body, IsOneOf}
+use Rattle.typed_tree.specs.TypingRules.Counts.{plain_invariants, assertions, points, block_assertions, block_points, checked_at_call}
 use Rattle.lowered_graph.specs.Arcs.{return_point}
 use Rattle.lowered_graph.proofs.KnownPlaces.{IsKnown, point_either, point_rest}
 

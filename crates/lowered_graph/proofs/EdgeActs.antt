@@ -9,7 +9,7 @@ use Rattle.boogie_tree.specs.declared.tree.Column.{Column}
 use Rattle.boogie_tree.specs.declared.tree.Column.TheVariants as columns
 use Rattle.boogie_tree.specs.declared.tree.VarInfo.{VarInfo}
 use Rattle.typed_tree.specs.TypedTree.{TypedExpression, TypedProcedure, TypedProgram}
-use Rattle.typing_rules.specs.Rules.{results_of}
+use Rattle.typed_tree.specs.TypingRules.Rules.{results_of}
 use Rattle.math_facts.specs.Terms.{IsBelow}
 use Rattle.lin_rows.specs.Rows.{LinearRow}
 use Rattle.letter_acts.specs.Frames.{Columns}
@@ -22,18 +22,18 @@ use Rattle.cond_jumps.specs.Passing.{Standing, Same, Numbered, Passed, standing_
 use Rattle.cond_jumps.specs.Paths.{paths}
 use Rattle.cond_jumps.specs.Lists.{path_list, assign_list}
 use Rattle.cond_jumps.proofs.FrameLemmas.{IsFound, found_from}
-use Rattle.free_products.specs.FreeProducts.{freed, all_freed}
-use Rattle.free_products.specs.Letters.{MarkedConjunction, marked_letter}
-use Rattle.free_products.specs.FrameLetters.{product_columns, widened, product_count, all_product_count, passed_count, passed_arguments, freed_passed_plan, told_condition, path_letters, assign_letters, told_letters, passed_letters}
-use Rattle.free_products.proofs.MeanLemmas.{all_freed_length}
-use Rattle.boogie_points.specs.Points.{Point, settled, past_first}
-use Rattle.boogie_points.specs.Actions as actions
-use Rattle.boogie_points.specs.Actions.{Action}
-use Rattle.boogie_points.specs.Starts.{targets_at}
-use Rattle.lowered_steps.specs.ProgramFrames.{frame_at, column_number}
-use Rattle.lowered_steps.specs.Edges as edges
-use Rattle.lowered_steps.specs.Edges.{Spot, At, Wrong, Edge, leads, no_rows, those_in, those_not_in, import_written, typed_column, left_if, left_at, found_or_0, results_at, all_hold, behind_helpers, told_ensures, import_products, whole_columns, import_environment, import_plan, import_letters, import_edges, skips, numbers_in, local_count, inside_edges}
-use Rattle.lowered_steps.specs.Stacks.{IsAmong}
+use Rattle.cond_jumps.specs.FreeProducts.FreeProducts.{freed, all_freed}
+use Rattle.cond_jumps.specs.FreeProducts.Letters.{MarkedConjunction, marked_letter}
+use Rattle.cond_jumps.specs.FreeProducts.FrameLetters.{product_columns, widened, product_count, all_product_count, passed_count, passed_arguments, freed_passed_plan, told_condition, path_letters, assign_letters, told_letters, passed_letters}
+use Rattle.cond_jumps.proofs.FreeProducts.MeanLemmas.{all_freed_length}
+use Rattle.boogie_run.specs.BoogiePoints.Points.{Point, settled, past_first}
+use Rattle.boogie_run.specs.BoogiePoints.Actions as actions
+use Rattle.boogie_run.specs.BoogiePoints.Actions.{Action}
+use Rattle.boogie_run.specs.BoogiePoints.Starts.{targets_at}
+use Rattle.lowered_graph.specs.LoweredSteps.ProgramFrames.{frame_at, column_number}
+use Rattle.lowered_graph.specs.LoweredSteps.Edges as edges
+use Rattle.lowered_graph.specs.LoweredSteps.Edges.{Spot, At, Wrong, Edge, leads, no_rows, those_in, those_not_in, import_written, typed_column, left_if, left_at, found_or_0, results_at, all_hold, behind_helpers, told_ensures, import_products, whole_columns, import_environment, import_plan, import_letters, import_edges, skips, numbers_in, local_count, inside_edges}
+use Rattle.lowered_graph.specs.LoweredSteps.Stacks.{IsAmong}
 use Rattle.lowered_graph.proofs.NamedColumns.{RowsName, AreNamed, IsNamed, SumNames, ListNames, EachNames, terms_so, rows_so, column_names, named_names, PlanNames, with_names, always_names, linear_names, paths_names, assigns_names}
 use Rattle.lowered_graph.proofs.LetterNames.{LettersName, letters_name}
 use Rattle.lowered_graph.proofs.FrameTargets.{StandsAt, AreStanding, AreVarying, stands_written, stands_new, standing_written, standing_new, standing_distinct, import_may_write, import_new, import_distinct}

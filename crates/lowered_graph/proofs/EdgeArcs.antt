@@ -7,18 +7,18 @@ use Rattle.typed_tree.specs.TypedTree.{TypedExpression, TypedProcedure, TypedPro
 use Rattle.nwa_base.specs.Members.{Member}
 use Rattle.letter_acts.specs.declared.sites.Site.{Site}
 use Rattle.letter_acts.specs.Acts.{inside_act, call_act}
-use Rattle.free_products.specs.Letters.{MarkedConjunction}
-use Rattle.free_products.specs.FrameLetters.{path_letters, passed_letters}
-use Rattle.boogie_points.specs.Points.{Point, settled, past_first}
-use Rattle.boogie_points.specs.Actions as actions
-use Rattle.boogie_points.specs.Actions.{Action, action_at}
-use Rattle.boogie_points.specs.Starts.{point_of_call, targets_at}
-use Rattle.boogie_places.specs.Places.{Place, IsPlaceIn, IsOneOf, onward}
-use Rattle.lowered_steps.specs.ProgramFrames.{frame_at}
-use Rattle.lowered_steps.specs.Edges.{Spot, At, Wrong, Edge, leads, no_rows, import_edges, import_written, import_letters, skips, inside_edges, call_letters, numbers_in, local_count}
-use Rattle.lowered_steps.specs.Stacks.{IsAmong}
+use Rattle.cond_jumps.specs.FreeProducts.Letters.{MarkedConjunction}
+use Rattle.cond_jumps.specs.FreeProducts.FrameLetters.{path_letters, passed_letters}
+use Rattle.boogie_run.specs.BoogiePoints.Points.{Point, settled, past_first}
+use Rattle.boogie_run.specs.BoogiePoints.Actions as actions
+use Rattle.boogie_run.specs.BoogiePoints.Actions.{Action, action_at}
+use Rattle.boogie_run.specs.BoogiePoints.Starts.{point_of_call, targets_at}
+use Rattle.boogie_run.specs.BoogiePlaces.Places.{Place, IsPlaceIn, IsOneOf, onward}
+use Rattle.lowered_graph.specs.LoweredSteps.ProgramFrames.{frame_at}
+use Rattle.lowered_graph.specs.LoweredSteps.Edges.{Spot, At, Wrong, Edge, leads, no_rows, import_edges, import_written, import_letters, skips, inside_edges, call_letters, numbers_in, local_count}
+use Rattle.lowered_graph.specs.LoweredSteps.Stacks.{IsAmong}
 use Rattle.lowered_graph.specs.Arcs.{place_number, spot_number, return_place, inside_arcs, action_arcs, arcs_at, arcs_of}
-use Rattle.letter_table.specs.Letters.{MarkedAct, Arc, inside_arc, call_arc}
+use Rattle.letter_acts.specs.LetterTable.Letters.{MarkedAct, Arc, inside_arc, call_arc}
 use Rattle.lowered_graph.specs.Lowered.{site, action_sites, sites_of}
 use Rattle.lowered_graph.proofs.Lists.{among_either, member_either, member_front, member_rest}
 

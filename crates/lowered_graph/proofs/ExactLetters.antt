@@ -4,27 +4,27 @@ use Rattle.std.specs.Prelude.{slice_get, unwrap_or}
 use Rattle.std.specs.List.{AllByRecursion}
 use Rattle.typed_tree.specs.AffineForm.{is_empty, forms_fit}
 use Rattle.typed_tree.specs.TypedTree.{TypedExpression, TypedInvariant, TypedProcedure, TypedProgram}
-use Rattle.typing_rules.specs.ValidProgram.{is_valid}
+use Rattle.typed_tree.specs.TypingRules.ValidProgram.{is_valid}
 use Rattle.nwa_base.specs.declared.letters.Letter.{Letter}
 use Rattle.letter_acts.specs.Frames.{Columns}
 use Rattle.letter_acts.specs.Invariant.{mark_at}
 use Rattle.letter_acts.proofs.ListLemmas.{all_from_members}
 use Rattle.cond_jumps.specs.Conjunctions.{Conjunction, listed_plan}
 use Rattle.cond_jumps.specs.Frames.{fixed_in}
-use Rattle.free_products.specs.FreeProducts.{free_products, all_free_products, freed, all_freed}
-use Rattle.free_products.specs.Letters.{MarkedConjunction, marked_letter}
-use Rattle.free_products.specs.FrameLetters.{widened, product_count, all_product_count, passed_count, put_in, told_condition, freed_passed_plan, path_letters, assign_letters, told_letters, passed_letters}
-use Rattle.free_products.proofs.NarrowLemmas.{plain_letters}
+use Rattle.cond_jumps.specs.FreeProducts.FreeProducts.{free_products, all_free_products, freed, all_freed}
+use Rattle.cond_jumps.specs.FreeProducts.Letters.{MarkedConjunction, marked_letter}
+use Rattle.cond_jumps.specs.FreeProducts.FrameLetters.{widened, product_count, all_product_count, passed_count, put_in, told_condition, freed_passed_plan, path_letters, assign_letters, told_letters, passed_letters}
+use Rattle.cond_jumps.proofs.FreeProducts.NarrowLemmas.{plain_letters}
 use Rattle.cond_jumps.specs.Lists.{path_list, assign_list}
-use Rattle.boogie_points.specs.Points.{Point, settled, past_first}
-use Rattle.boogie_points.specs.Actions as actions
-use Rattle.boogie_points.specs.Actions.{Action, action_at, ensured_conditions}
-use Rattle.boogie_points.specs.Starts.{point_of_call, start_point_of, targets_at}
-use Rattle.lowered_steps.specs.ProgramFrames.{frame_at, width_at, column_number}
-use Rattle.lowered_steps.specs.Edges.{Spot, At, Wrong, Edge, leads, no_rows, import_written, those_in, told_ensures, import_products, import_plan, behind_helpers, import_letters, import_edges, skips, numbers_in, local_count, inside_edges, call_plan, call_letters}
-use Rattle.lowered_steps.specs.Stacks.{IsAmong}
-use Rattle.lowered_steps.proofs.ListSteps.{IsLed, among_led, among_either, letter_of_edge}
-use Rattle.letter_table.specs.Letters.{MarkedAct, exact_act, inside_arc, no_letters, lettered}
+use Rattle.boogie_run.specs.BoogiePoints.Points.{Point, settled, past_first}
+use Rattle.boogie_run.specs.BoogiePoints.Actions as actions
+use Rattle.boogie_run.specs.BoogiePoints.Actions.{Action, action_at, ensured_conditions}
+use Rattle.boogie_run.specs.BoogiePoints.Starts.{point_of_call, start_point_of, targets_at}
+use Rattle.lowered_graph.specs.LoweredSteps.ProgramFrames.{frame_at, width_at, column_number}
+use Rattle.lowered_graph.specs.LoweredSteps.Edges.{Spot, At, Wrong, Edge, leads, no_rows, import_written, those_in, told_ensures, import_products, import_plan, behind_helpers, import_letters, import_edges, skips, numbers_in, local_count, inside_edges, call_plan, call_letters}
+use Rattle.lowered_graph.specs.LoweredSteps.Stacks.{IsAmong}
+use Rattle.lowered_graph.proofs.LoweredSteps.ListSteps.{IsLed, among_led, among_either, letter_of_edge}
+use Rattle.letter_acts.specs.LetterTable.Letters.{MarkedAct, exact_act, inside_arc, no_letters, lettered}
 use Rattle.lowered_graph.specs.Arcs.{place_number, spot_number, return_place, entering, program_arcs}
 use Rattle.lowered_graph.specs.Lowered.{lowered}
 use Rattle.lowered_graph.specs.PlainPoints.{HasNone, EnsuresHaveNone, IsPlainAction, PointsArePlain}

@@ -16,10 +16,10 @@ use Rattle.letter_acts.specs.Invariant.{AreDistinct, MayWrite, MayTarget, IsOld,
 use Rattle.cond_jumps.specs.Frames.{same_frame_column, place_from, column_place_in}
 use Rattle.cond_jumps.proofs.FrameLemmas.{IsFound, found_from}
 use Rattle.boogie_run.specs.Needs.{locals_at}
-use Rattle.lowered_steps.specs.ProgramFrames.{frame_at, column_number, column_number_if_any}
-use Rattle.lowered_steps.specs.Edges.{those_not_in, import_written, numbers_in}
+use Rattle.lowered_graph.specs.LoweredSteps.ProgramFrames.{frame_at, column_number, column_number_if_any}
+use Rattle.lowered_graph.specs.LoweredSteps.Edges.{those_not_in, import_written, numbers_in}
 use Rattle.letter_acts.specs.Reading.{is_listed}
-use Rattle.lowered_steps.specs.Moves.{IsTarget, AreTargets}
+use Rattle.lowered_graph.specs.LoweredSteps.Moves.{IsTarget, AreTargets}
 use Rattle.lowered_graph.proofs.Lists.{all_get, from_zero, get_behind, not_both}
 use Rattle.letter_acts.proofs.ListLemmas.{all_append}
 

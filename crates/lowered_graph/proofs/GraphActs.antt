@@ -8,23 +8,23 @@ use Rattle.boogie_tree.specs.declared.tree.Column.{Column}
 use Rattle.boogie_tree.specs.declared.tree.Column.TheVariants as columns
 use Rattle.boogie_tree.specs.declared.tree.VarInfo.{VarInfo}
 use Rattle.typed_tree.specs.TypedTree.{TypedExpression, TypedProcedure, TypedProgram}
-use Rattle.typing_rules.specs.ValidProgram.{is_valid}
-use Rattle.typing_rules.proofs.ValidLaws as valid
+use Rattle.typed_tree.specs.TypingRules.ValidProgram.{is_valid}
+use Rattle.typed_tree.proofs.TypingRules.ValidLaws as valid
 use Rattle.math_facts.specs.Terms.{IsBelow}
 use Rattle.nwa_base.specs.Members.{Member}
 use Rattle.letter_acts.specs.Frames.{Columns, ConstantsFirst, globals_from, old_columns, locals_from, olds_from, olds_of}
 use Rattle.letter_acts.specs.Acts.{PlainAct, inside_act, call_act, back_act, frame_of}
 use Rattle.letter_acts.specs.Invariant.{AreDistinct, MayWrite, inside_width, InsideIsActed, MayName, CallIsActed, written_by, BackIsActed, BackIsActedFrom, IsActed}
 use Rattle.cond_jumps.proofs.FormLemmas.{below-summed}
-use Rattle.boogie_points.specs.Points.{Point, settled, past_first}
-use Rattle.boogie_points.specs.Actions as actions
-use Rattle.boogie_points.specs.Actions.{action_at}
-use Rattle.boogie_points.specs.Starts.{point_of_call, start_point_of, targets_at}
+use Rattle.boogie_run.specs.BoogiePoints.Points.{Point, settled, past_first}
+use Rattle.boogie_run.specs.BoogiePoints.Actions as actions
+use Rattle.boogie_run.specs.BoogiePoints.Actions.{action_at}
+use Rattle.boogie_run.specs.BoogiePoints.Starts.{point_of_call, start_point_of, targets_at}
 use Rattle.boogie_run.specs.Needs.{locals_at}
-use Rattle.lowered_steps.specs.ProgramFrames.{frame_at}
-use Rattle.lowered_steps.specs.Edges.{Edge, numbers_in}
+use Rattle.lowered_graph.specs.LoweredSteps.ProgramFrames.{frame_at}
+use Rattle.lowered_graph.specs.LoweredSteps.Edges.{Edge, numbers_in}
 use Rattle.lowered_graph.specs.Arcs.{place_number, spot_number, return_place, entering_rows, entering, program_arcs}
-use Rattle.letter_table.specs.Letters.{MarkedAct, exact_act, Arc, inside_arc, call_arc, act_place_from, act_number, unless_there, with_act, Lettered, with_arc, with_arcs, no_letters, lettered}
+use Rattle.letter_acts.specs.LetterTable.Letters.{MarkedAct, exact_act, Arc, inside_arc, call_arc, act_place_from, act_number, unless_there, with_act, Lettered, with_arc, with_arcs, no_letters, lettered}
 use Rattle.lowered_graph.specs.Lowered.{lowered}
 use Rattle.letter_acts.specs.Widths.{back_width, act_width, ActsFit}
 use Rattle.lowered_graph.proofs.ActNumbers.{act_numbered, act_got, longer_get, longer_than, with_longer}

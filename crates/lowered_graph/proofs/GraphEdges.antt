@@ -6,7 +6,7 @@ use Rattle.std.specs.Option.{option_map}
 use Rattle.std.proofs.lemmas.List.{length-map}
 use Rattle.boogie_tree.specs.declared.span.Span.{Span}
 use Rattle.typed_tree.specs.TypedTree.{TypedExpression, TypedBlock, TypedProcedure, TypedProgram}
-use Rattle.typing_rules.specs.ValidProgram.{is_valid}
+use Rattle.typed_tree.specs.TypingRules.ValidProgram.{is_valid}
 use Rattle.nwa_base.specs.Members.{Member}
 use Rattle.nwa_base.specs.declared.letters.Letter.{Letter}
 use Rattle.letter_acts.specs.declared.sites.Site.{Site}
@@ -18,19 +18,19 @@ use Rattle.cond_jumps.specs.Forms.{Linear, column, after}
 use Rattle.cond_jumps.specs.Comparisons.{equal}
 use Rattle.cond_jumps.specs.Environments.{Environment}
 use Rattle.cond_jumps.specs.Frames.{frame_environment, fixed_in}
-use Rattle.free_products.specs.FreeProducts.{all_freed}
-use Rattle.free_products.specs.Letters.{MarkedConjunction, marked_letter}
-use Rattle.free_products.specs.FrameLetters.{widened, all_product_count}
-use Rattle.boogie_points.specs.Points.{Point, settled, past_first}
-use Rattle.boogie_points.specs.Actions as actions
-use Rattle.boogie_points.specs.Actions.{Action, action_at}
-use Rattle.boogie_points.specs.Starts.{point_of_call, start_point_of, targets_at}
-use Rattle.boogie_places.specs.Places.{count_from, program_places}
-use Rattle.lowered_steps.specs.ProgramFrames.{frame_at, width_at}
-use Rattle.lowered_steps.specs.Edges.{Spot, At, Wrong, Edge, inside_edges, argument_sum, columns_before_locals, parameters_get, call_letters, numbers_in, local_count}
-use Rattle.lowered_steps.specs.Stacks.{IsAmong}
+use Rattle.cond_jumps.specs.FreeProducts.FreeProducts.{all_freed}
+use Rattle.cond_jumps.specs.FreeProducts.Letters.{MarkedConjunction, marked_letter}
+use Rattle.cond_jumps.specs.FreeProducts.FrameLetters.{widened, all_product_count}
+use Rattle.boogie_run.specs.BoogiePoints.Points.{Point, settled, past_first}
+use Rattle.boogie_run.specs.BoogiePoints.Actions as actions
+use Rattle.boogie_run.specs.BoogiePoints.Actions.{Action, action_at}
+use Rattle.boogie_run.specs.BoogiePoints.Starts.{point_of_call, start_point_of, targets_at}
+use Rattle.boogie_run.specs.BoogiePlaces.Places.{count_from, program_places}
+use Rattle.lowered_graph.specs.LoweredSteps.ProgramFrames.{frame_at, width_at}
+use Rattle.lowered_graph.specs.LoweredSteps.Edges.{Spot, At, Wrong, Edge, inside_edges, argument_sum, columns_before_locals, parameters_get, call_letters, numbers_in, local_count}
+use Rattle.lowered_graph.specs.LoweredSteps.Stacks.{IsAmong}
 use Rattle.lowered_graph.specs.Arcs.{place_number, error_place, spot_number, return_place, entering, start_arc, program_arcs}
-use Rattle.letter_table.specs.Letters.{MarkedAct, exact_act, inside_arc, lettered}
+use Rattle.letter_acts.specs.LetterTable.Letters.{MarkedAct, exact_act, inside_arc, lettered}
 use Rattle.lowered_graph.specs.LetterLaws.{InsideOf, CallOf, BackOf}
 use Rattle.lowered_graph.specs.Lowered.{site, program_sites, entry_of, exit_of, place_owners, lowered}
 use Rattle.lowered_graph.proofs.ActNumbers.{one_index, act_got}

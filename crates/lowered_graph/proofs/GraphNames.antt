@@ -10,16 +10,16 @@ use Rattle.boogie_tree.specs.declared.tree.Column.TheVariants.{Old}
 use Rattle.boogie_tree.specs.declared.tree.VarInfo.{VarInfo}
 use Rattle.boogie_tree.specs.Names as names
 use Rattle.typed_tree.specs.TypedTree.{TypedProcedure, TypedProgram}
-use Rattle.typing_rules.specs.Rules.{all_differ, keeps_typing}
-use Rattle.typing_rules.specs.Shape.{are_names, are_locals, are_modified, is_body_shaped, is_procedure_shaped, has_shape}
-use Rattle.typing_rules.specs.Counts.{numbers_fit}
-use Rattle.typing_rules.specs.ValidProgram.{has_entry, is_typed, is_valid}
-use Rattle.typing_rules.proofs.ValidLaws.{all_member}
+use Rattle.typed_tree.specs.TypingRules.Rules.{all_differ, keeps_typing}
+use Rattle.typed_tree.specs.TypingRules.Shape.{are_names, are_locals, are_modified, is_body_shaped, is_procedure_shaped, has_shape}
+use Rattle.typed_tree.specs.TypingRules.Counts.{numbers_fit}
+use Rattle.typed_tree.specs.TypingRules.ValidProgram.{has_entry, is_typed, is_valid}
+use Rattle.typed_tree.proofs.TypingRules.ValidLaws.{all_member}
 use Rattle.nwa_base.specs.Members.{Member}
 use Rattle.letter_acts.specs.Frames.{Columns, added, globals_from, old_columns, locals_from, is_global, is_local}
 use Rattle.letter_acts.specs.Invariant.{AreDistinct, names_where, HasNames, AreNamed}
 use Rattle.boogie_run.specs.Needs.{locals_at, locals_if_any}
-use Rattle.lowered_steps.specs.ProgramFrames.{frame_at}
+use Rattle.lowered_graph.specs.LoweredSteps.ProgramFrames.{frame_at}
 use Rattle.lowered_graph.specs.Lowered.{counted_procs, lowered}
 use Rattle.lowered_graph.proofs.Lists.{contained, not_both, or_right}
 use Rattle.letter_acts.proofs.ListLemmas.{all_append}

@@ -5,19 +5,19 @@ use Rattle.std.specs.List.{AllByRecursion}
 use Rattle.std.specs.Option.{option_map}
 use Rattle.std.proofs.lemmas.List.{length-append, length-map}
 use Rattle.typed_tree.specs.TypedTree.{TypedBlock, TypedProcedure, TypedProgram}
-use Rattle.typing_rules.specs.ValidProgram.{is_valid}
-use Rattle.typing_rules.proofs.ValidLaws as valid
+use Rattle.typed_tree.specs.TypingRules.ValidProgram.{is_valid}
+use Rattle.typed_tree.proofs.TypingRules.ValidLaws as valid
 use Rattle.nwa_base.specs.Members.{Member}
 use Rattle.letter_acts.specs.declared.sites.Site.{Site}
 use Rattle.letter_acts.specs.Frames.{IsFrame, ConstantsFirst}
 use Rattle.letter_acts.specs.Invariant.{AreDistinct, IsPlaceOf, HasBody, HaveBodies, HasProcedures, AreFrames, AreNumbered, site_places, HasSites}
-use Rattle.boogie_points.specs.Points.{Point}
-use Rattle.boogie_points.specs.Actions as actions
-use Rattle.boogie_points.specs.Actions.{Action, action_at}
-use Rattle.boogie_points.specs.Starts.{point_of_call}
-use Rattle.boogie_places.specs.Places.{count_from, Place, number_of, program_places, IsPlaceIn}
+use Rattle.boogie_run.specs.BoogiePoints.Points.{Point}
+use Rattle.boogie_run.specs.BoogiePoints.Actions as actions
+use Rattle.boogie_run.specs.BoogiePoints.Actions.{Action, action_at}
+use Rattle.boogie_run.specs.BoogiePoints.Starts.{point_of_call}
+use Rattle.boogie_run.specs.BoogiePlaces.Places.{count_from, Place, number_of, program_places, IsPlaceIn}
 use Rattle.boogie_run.specs.Needs.{locals_at}
-use Rattle.lowered_steps.specs.ProgramFrames.{frame_at}
+use Rattle.lowered_graph.specs.LoweredSteps.ProgramFrames.{frame_at}
 use Rattle.lowered_graph.specs.Arcs.{place_number, first_error, error_place, return_place, return_point}
 use Rattle.lowered_graph.specs.Lowered.{action_sites, sites_of, program_sites, counted_procs, entry_of, exit_of, place_owners, lowered}
 use Rattle.lowered_graph.proofs.Lists.{get_front}

@@ -4,7 +4,7 @@ use Rattle.std.specs.Prelude.{slice_get}
 use Rattle.std.specs.List.{AllByRecursion}
 use Rattle.std.proofs.lemmas.List.{length-map}
 use Rattle.typed_tree.specs.TypedTree.{TypedProgram}
-use Rattle.typing_rules.specs.ValidProgram.{is_valid}
+use Rattle.typed_tree.specs.TypingRules.ValidProgram.{is_valid}
 use Rattle.nwa_base.specs.Members.{Member}
 use Rattle.nwa_base.specs.Automata.{IsAutomaton, IsEdge, IsBackEdge}
 use Rattle.nwa_base.specs.declared.letters.Kind.TheVariants.{Inside, Call, Back}
@@ -13,8 +13,8 @@ use Rattle.letter_acts.specs.declared.sites.Site.{Site}
 use Rattle.letter_acts.specs.Acts.{PlainAct, inside_act, call_act, back_act, letter_of}
 use Rattle.letter_acts.specs.Invariant.{Graph, IsPlaceOf, HaveBodies, HasProcedures, InsideStays, InsideFollows, CallEnters, CallFollows, BackLeaves, BackFollows, HasEdges, site_places}
 use Rattle.letter_acts.proofs.ListLemmas.{all_member, all_from_members}
-use Rattle.boogie_places.specs.Places.{count_from}
-use Rattle.letter_table.specs.Letters.{lettered}
+use Rattle.boogie_run.specs.BoogiePlaces.Places.{count_from}
+use Rattle.letter_acts.specs.LetterTable.Letters.{lettered}
 use Rattle.lowered_graph.specs.Arcs.{error_place, first_error, program_arcs}
 use Rattle.lowered_graph.specs.LetterLaws.{InsideOf, CallOf, BackOf}
 use Rattle.lowered_graph.specs.Lowered.{program_sites, lowered}

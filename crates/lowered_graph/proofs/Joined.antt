@@ -4,23 +4,23 @@ use Rattle.std.specs.Prelude.{slice_get}
 use Rattle.std.specs.List.{AllByRecursion}
 use Rattle.boogie_tree.specs.declared.span.Span.{Span}
 use Rattle.typed_tree.specs.TypedTree.{TypedExpression, TypedProgram}
-use Rattle.typing_rules.specs.ValidProgram.{is_valid}
+use Rattle.typed_tree.specs.TypingRules.ValidProgram.{is_valid}
 use Rattle.nwa_base.specs.Members.{Member}
 use Rattle.nwa_base.specs.declared.letters.Letter.{Letter}
 use Rattle.letter_acts.specs.Acts.{PlainAct, inside_act, call_act, back_act, letter_of, act_of}
 use Rattle.letter_acts.specs.Meaning.{Situation, ActInside, ActCalls, ActReturns}
 use Rattle.letter_acts.specs.Ways.{Leads}
 use Rattle.letter_acts.specs.Feasible.{machine}
-use Rattle.boogie_points.specs.Points.{Point, settled, past_first}
-use Rattle.boogie_points.specs.Actions as actions
-use Rattle.boogie_points.specs.Actions.{Action, action_at}
-use Rattle.boogie_points.specs.Starts.{point_of_call, targets_at}
-use Rattle.boogie_places.specs.Places.{program_places, IsOneOf, onward}
-use Rattle.lowered_steps.specs.ProgramFrames.{frame_at}
-use Rattle.lowered_steps.specs.Edges.{Spot, At, Wrong, numbers_in}
-use Rattle.lowered_steps.specs.Stacks.{Pending, Stack, IsStep, inside, call, back}
+use Rattle.boogie_run.specs.BoogiePoints.Points.{Point, settled, past_first}
+use Rattle.boogie_run.specs.BoogiePoints.Actions as actions
+use Rattle.boogie_run.specs.BoogiePoints.Actions.{Action, action_at}
+use Rattle.boogie_run.specs.BoogiePoints.Starts.{point_of_call, targets_at}
+use Rattle.boogie_run.specs.BoogiePlaces.Places.{program_places, IsOneOf, onward}
+use Rattle.lowered_graph.specs.LoweredSteps.ProgramFrames.{frame_at}
+use Rattle.lowered_graph.specs.LoweredSteps.Edges.{Spot, At, Wrong, numbers_in}
+use Rattle.lowered_graph.specs.LoweredSteps.Stacks.{Pending, Stack, IsStep, inside, call, back}
 use Rattle.lowered_graph.specs.Arcs.{place_number, spot_number, return_place, start_arc, arcs_at, program_arcs}
-use Rattle.letter_table.specs.Letters.{MarkedAct, Arc, exact_act, no_letters, lettered}
+use Rattle.letter_acts.specs.LetterTable.Letters.{MarkedAct, Arc, exact_act, no_letters, lettered}
 use Rattle.lowered_graph.specs.Lowered.{site, program_sites, lowered}
 use Rattle.lowered_graph.proofs.ActNumbers.{act_got}
 use Rattle.lowered_graph.proofs.LetterEdges.{HasInside, HasCall, inside_lettered, call_lettered}

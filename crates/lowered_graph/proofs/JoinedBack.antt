@@ -3,7 +3,7 @@ use Rattle.std.proofs.Common.{◌≡◌, ◌∙◌, false, ℕ, ◌+◌, ◌<◌
 use Rattle.std.specs.Prelude.{slice_get}
 use Rattle.std.specs.List.{AllByRecursion}
 use Rattle.typed_tree.specs.TypedTree.{TypedExpression, TypedProgram}
-use Rattle.typing_rules.specs.ValidProgram.{is_valid}
+use Rattle.typed_tree.specs.TypingRules.ValidProgram.{is_valid}
 use Rattle.nwa_base.specs.Members.{Member}
 use Rattle.nwa_base.specs.declared.letters.Kind.{Kind}
 use Rattle.nwa_base.specs.declared.letters.Kind.TheVariants as kinds
@@ -13,17 +13,17 @@ use Rattle.letter_acts.specs.Meaning.{Situation, ActInside, ActCalls, ActReturns
 use Rattle.letter_acts.specs.Ways.{Leads}
 use Rattle.letter_acts.specs.Feasible.{machine}
 use Rattle.letter_acts.specs.Invariant.{mark_at}
-use Rattle.free_products.specs.Letters.{MarkedConjunction}
-use Rattle.boogie_points.specs.Points.{Point, settled, past_first}
-use Rattle.boogie_points.specs.Actions as actions
-use Rattle.boogie_points.specs.Actions.{Action, action_at}
-use Rattle.boogie_points.specs.Starts.{point_of_call, targets_at}
-use Rattle.boogie_places.specs.Places.{program_places}
-use Rattle.lowered_steps.specs.ProgramFrames.{frame_at}
-use Rattle.lowered_steps.specs.Edges.{Spot, At, Wrong, Edge, call_letters, numbers_in}
-use Rattle.lowered_steps.specs.Stacks.{Pending, Stack, IsAmong, IsStep, inside, call, back, IsExact}
+use Rattle.cond_jumps.specs.FreeProducts.Letters.{MarkedConjunction}
+use Rattle.boogie_run.specs.BoogiePoints.Points.{Point, settled, past_first}
+use Rattle.boogie_run.specs.BoogiePoints.Actions as actions
+use Rattle.boogie_run.specs.BoogiePoints.Actions.{Action, action_at}
+use Rattle.boogie_run.specs.BoogiePoints.Starts.{point_of_call, targets_at}
+use Rattle.boogie_run.specs.BoogiePlaces.Places.{program_places}
+use Rattle.lowered_graph.specs.LoweredSteps.ProgramFrames.{frame_at}
+use Rattle.lowered_graph.specs.LoweredSteps.Edges.{Spot, At, Wrong, Edge, call_letters, numbers_in}
+use Rattle.lowered_graph.specs.LoweredSteps.Stacks.{Pending, Stack, IsAmong, IsStep, inside, call, back, IsExact}
 use Rattle.lowered_graph.specs.Arcs.{place_number, spot_number, return_point, return_place, program_arcs}
-use Rattle.letter_table.specs.Letters.{MarkedAct, exact_act, inside_arc, call_arc, lettered}
+use Rattle.letter_acts.specs.LetterTable.Letters.{MarkedAct, exact_act, inside_arc, call_arc, lettered}
 use Rattle.lowered_graph.specs.LetterLaws.{IsLetterOf, InsideOf, CallOf, BackOf}
 use Rattle.lowered_graph.specs.Lowered.{lowered}
 use Rattle.lowered_graph.proofs.ActNumbers.{act_got, mark_got, act_of_letter}

@@ -2,13 +2,13 @@
 use Rattle.std.proofs.Common.{◌≡◌, ◌∙◌, ◌⊎◌, ℕ, zero, suc, ◌+◌, ◌<◌, ◌≤◌, List, [], ◌∷◌, ◌++◌, map, length, Option, None, Some, inl, inr, refl, sym, ap, subst, arith, IsTrue}
 use Rattle.std.specs.Prelude.{slice_get}
 use Rattle.typed_tree.specs.TypedTree.{TypedExpression, TypedBlock, TypedProcedure, TypedProgram}
-use Rattle.typing_rules.specs.ValidProgram.{is_valid}
-use Rattle.typing_rules.proofs.ValidLaws as valid
-use Rattle.boogie_points.specs.Points.{Start, Point}
-use Rattle.boogie_points.specs.Actions.{action_at, first_point, first_assertion, first_place, start_conditions}
-use Rattle.boogie_points.specs.Starts.{point_of_procedure, point_of_call, unless_none, start_point_of}
-use Rattle.boogie_places.specs.Laws as law
-use Rattle.boogie_places.specs.Places.{parts_from, points_of_body, start_points, IsOneOf, count_from, Place, number_of, located, points_with, places_from, starts_if_any, program_places, IsPlaceIn, onward}
+use Rattle.typed_tree.specs.TypingRules.ValidProgram.{is_valid}
+use Rattle.typed_tree.proofs.TypingRules.ValidLaws as valid
+use Rattle.boogie_run.specs.BoogiePoints.Points.{Start, Point}
+use Rattle.boogie_run.specs.BoogiePoints.Actions.{action_at, first_point, first_assertion, first_place, start_conditions}
+use Rattle.boogie_run.specs.BoogiePoints.Starts.{point_of_procedure, point_of_call, unless_none, start_point_of}
+use Rattle.boogie_run.specs.BoogiePlaces.Laws as law
+use Rattle.boogie_run.specs.BoogiePlaces.Places.{parts_from, points_of_body, start_points, IsOneOf, count_from, Place, number_of, located, points_with, places_from, starts_if_any, program_places, IsPlaceIn, onward}
 
 -- the laws of the places of typed programs
 pub record PlaceLaws : Type 0 where

@@ -5,7 +5,7 @@ use Rattle.nwa_base.specs.Members.{Member}
 use Rattle.nwa_base.specs.declared.letters.Letter.{Letter}
 use Rattle.letter_acts.specs.Acts.{back_act, letter_of}
 use Rattle.letter_acts.specs.Invariant.{AreDistinct}
-use Rattle.letter_table.specs.Letters.{MarkedAct, exact_act, Arc, inside_arc, call_arc, act_number, with_act, numbered_letter, Lettered, with_arc, with_arcs}
+use Rattle.letter_acts.specs.LetterTable.Letters.{MarkedAct, exact_act, Arc, inside_arc, call_arc, act_number, with_act, numbered_letter, Lettered, with_arc, with_arcs}
 use Rattle.lowered_graph.specs.LetterLaws.{InsideOf, CallOf, BackOf}
 use Rattle.lowered_graph.proofs.ActNumbers.{act_numbered, IsLonger, longer_get, longer_itself, longer_than, with_longer, with_distinct}
 use Rattle.lowered_graph.proofs.Lists.{before_or_last}

@@ -4,9 +4,9 @@ use Rattle.std.specs.List.{AllByRecursion}
 use Rattle.std.proofs.lemmas.Bool.{cases_lt, true≢false}
 use Rattle.lin_rows.specs.Rows.{LinearRow}
 use Rattle.cond_jumps.specs.Conjunctions.{Conjunction}
-use Rattle.free_products.specs.Letters.{MarkedConjunction, ProductSpan, is_product_column, names_any, plain_rows, is_left_out, staying, renumbered, span_over, marked_letter}
-use Rattle.free_products.proofs.SpanLemmas.{below_low, from_high, is_inside, other_stays, product_goes, plain_stay, all_filtered}
-use Rattle.free_products.proofs.NarrowLemmas.{staying-append, all_staying, none_staying, staying_below}
+use Rattle.cond_jumps.specs.FreeProducts.Letters.{MarkedConjunction, ProductSpan, is_product_column, names_any, plain_rows, is_left_out, staying, renumbered, span_over, marked_letter}
+use Rattle.cond_jumps.proofs.FreeProducts.SpanLemmas.{below_low, from_high, is_inside, other_stays, product_goes, plain_stay, all_filtered}
+use Rattle.cond_jumps.proofs.FreeProducts.NarrowLemmas.{staying-append, all_staying, none_staying, staying_below}
 use Rattle.lowered_graph.proofs.NamedColumns.{AreNamed, RowsName, IsNamed, ListNames}
 
 -- the rows of each letter name these columns and its helpers alone

@@ -4,10 +4,10 @@ use Rattle.std.specs.Prelude.{slice_get}
 use Rattle.nwa_base.specs.Members.{Member}
 use Rattle.nwa_base.specs.declared.letters.Letter.{Letter}
 use Rattle.letter_acts.specs.Acts.{back_act, letter_of}
-use Rattle.letter_table.specs.Letters.{MarkedAct, exact_act, Arc, no_letters, lettered}
+use Rattle.letter_acts.specs.LetterTable.Letters.{MarkedAct, exact_act, Arc, no_letters, lettered}
 use Rattle.lowered_graph.specs.LetterLaws as law
 use Rattle.lowered_graph.specs.LetterLaws.{InsideOf, CallOf, BackOf}
-use Rattle.letter_table.proofs.SameActs.{same_marked_so, same_marked_back}
+use Rattle.letter_acts.proofs.LetterTable.SameActs.{same_marked_so, same_marked_back}
 use Rattle.lowered_graph.proofs.ActNumbers.{one_index}
 use Rattle.lowered_graph.proofs.LetterEdges.{arcs_longer, arcs_distinct, insides_from, calls_from, backs_from, HasInside, HasCall, inside_lettered, call_lettered}
 

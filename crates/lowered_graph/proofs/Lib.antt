@@ -24,3 +24,8 @@ pub mod GraphNames
 pub mod TargetsDiffer
 pub mod WholeGraph
 pub mod ExactLetters
+pub mod LoweredSteps
+pub mod LoweredImports
+pub mod LoweredRuns
+pub mod LoweredChoices
+pub mod LoweredParts

@@ -5,7 +5,7 @@ use Rattle.std.specs.List.{AllByRecursion}
 use Rattle.std.proofs.lemmas.Bool.{false≢true}
 use Rattle.std.proofs.lemmas.Option.{slice_get_within, get_or_from_slice_get}
 use Rattle.nwa_base.specs.Members.{Member}
-use Rattle.lowered_steps.specs.Stacks.{IsAmong}
+use Rattle.lowered_graph.specs.LoweredSteps.Stacks.{IsAmong}
 
 -- ---- members
 

@@ -5,8 +5,8 @@ use Rattle.std.specs.Prelude.{slice_get}
 use Rattle.std.specs.List.{AllByRecursion}
 use Rattle.boogie_tree.specs.declared.span.Span.{Span}
 use Rattle.typed_tree.specs.TypedTree.{TypedProgram}
-use Rattle.typing_rules.specs.ValidProgram.{is_valid}
-use Rattle.typing_rules.proofs.ValidLaws as valid
+use Rattle.typed_tree.specs.TypingRules.ValidProgram.{is_valid}
+use Rattle.typed_tree.proofs.TypingRules.ValidLaws as valid
 use Rattle.nwa_base.specs.Members.{Member}
 use Rattle.nwa_base.specs.declared.letters.Kind.{Kind}
 use Rattle.nwa_base.specs.declared.letters.Kind.TheVariants as kinds
@@ -20,14 +20,14 @@ use Rattle.letter_acts.specs.Ways.{Leads, Goes}
 use Rattle.letter_acts.specs.Feasible.{IsSituation, meaning, edges, machine, FeasibleWay}
 use Rattle.letter_acts.proofs.WayLemmas.{leads_stack, leads_with}
 use Rattle.letter_acts.proofs.MachineLemmas.{goes_together, goes_apart, firsts, seconds, feasible_by_way}
-use Rattle.boogie_points.specs.Points.{Point}
-use Rattle.boogie_points.specs.Starts.{start_point_of}
-use Rattle.boogie_places.specs.Places.{program_places}
-use Rattle.lowered_steps.specs.ProgramFrames.{frame_at, width_at}
-use Rattle.lowered_steps.specs.Edges.{Spot, At, Wrong}
-use Rattle.lowered_steps.specs.Stacks.{Stack, IsStart, Reaches, MachineFails, ExactlyReaches, MachineFailsExactly}
+use Rattle.boogie_run.specs.BoogiePoints.Points.{Point}
+use Rattle.boogie_run.specs.BoogiePoints.Starts.{start_point_of}
+use Rattle.boogie_run.specs.BoogiePlaces.Places.{program_places}
+use Rattle.lowered_graph.specs.LoweredSteps.ProgramFrames.{frame_at, width_at}
+use Rattle.lowered_graph.specs.LoweredSteps.Edges.{Spot, At, Wrong}
+use Rattle.lowered_graph.specs.LoweredSteps.Stacks.{Stack, IsStart, Reaches, MachineFails, ExactlyReaches, MachineFailsExactly}
 use Rattle.lowered_graph.specs.Arcs.{place_number, error_place, spot_number, entering_rows, entering, program_arcs}
-use Rattle.letter_table.specs.Letters.{MarkedAct, exact_act, inside_arc, call_arc, no_letters, lettered}
+use Rattle.letter_acts.specs.LetterTable.Letters.{MarkedAct, exact_act, inside_arc, call_arc, no_letters, lettered}
 use Rattle.lowered_graph.specs.LetterLaws.{InsideOf, CallOf}
 use Rattle.lowered_graph.specs.Lowered.{site, program_sites, lowered}
 use Rattle.lowered_graph.specs.Laws.{ErrorWord, IsExactWord, MachineJoins}

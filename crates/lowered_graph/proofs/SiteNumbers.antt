@@ -5,15 +5,15 @@ use Rattle.std.proofs.lemmas.List.{length-append, map-append}
 use Rattle.boogie_tree.specs.declared.span.Span.{Span}
 use Rattle.boogie_tree.specs.declared.tree.Column.{Column}
 use Rattle.typed_tree.specs.TypedTree.{TypedExpression, TypedGuard, Any, Cond, TypedInvariant, TypedStatement, Assert, Assume, Havoc, Assign, Call, If, While, Break, Goto, Return, Label, TypedBlock, Empty, Then, TypedSpecification, Requires, Ensures, TypedProcedure, TypedProgram}
-use Rattle.typing_rules.specs.ValidProgram.{is_valid}
-use Rattle.typing_rules.specs.Counts.{one_if, one_if_plain, plain_invariants, plain_requires, plain_ensures, checked_at_call, assertions, points, block_assertions, block_points, body_assertions}
-use Rattle.typing_rules.proofs.ValidLaws as valid
+use Rattle.typed_tree.specs.TypingRules.ValidProgram.{is_valid}
+use Rattle.typed_tree.specs.TypingRules.Counts.{one_if, one_if_plain, plain_invariants, plain_requires, plain_ensures, checked_at_call, assertions, points, block_assertions, block_points, body_assertions}
+use Rattle.typed_tree.proofs.TypingRules.ValidLaws as valid
 use Rattle.nwa_base.specs.Members.{Member}
 use Rattle.letter_acts.specs.declared.sites.Site.{Site}
-use Rattle.boogie_points.specs.Points.{Todo, Start, Entry, Point, at_exit, before, settled, past}
-use Rattle.boogie_points.specs.Actions as actions
-use Rattle.boogie_points.specs.Actions.{Action, next_part, action_at, stage_action, start_action, entry_action, exit_action, checked, guarded, head_action, havoc_action, one_of, ways_to, call_if_any, call_action, called_action, unseen_action, free_conditions, ensured_conditions, start_conditions, plain_conditions, chosen_columns, first_assertion, first_place, first_point, assertions_before}
-use Rattle.boogie_places.specs.Places.{parts_from, at_statement, points_in, points_of, points_of_body, start_points, count_from, Place, located, points_with, places_from, starts_if_any, program_places}
+use Rattle.boogie_run.specs.BoogiePoints.Points.{Todo, Start, Entry, Point, at_exit, before, settled, past}
+use Rattle.boogie_run.specs.BoogiePoints.Actions as actions
+use Rattle.boogie_run.specs.BoogiePoints.Actions.{Action, next_part, action_at, stage_action, start_action, entry_action, exit_action, checked, guarded, head_action, havoc_action, one_of, ways_to, call_if_any, call_action, called_action, unseen_action, free_conditions, ensured_conditions, start_conditions, plain_conditions, chosen_columns, first_assertion, first_place, first_point, assertions_before}
+use Rattle.boogie_run.specs.BoogiePlaces.Places.{parts_from, at_statement, points_in, points_of, points_of_body, start_points, count_from, Place, located, points_with, places_from, starts_if_any, program_places}
 use Rattle.lowered_graph.specs.Arcs.{error_place}
 use Rattle.lowered_graph.specs.Lowered.{action_sites, sites_of, program_sites}
 use Rattle.lowered_graph.proofs.CallPlaces.{action_is}

@@ -18,7 +18,7 @@ use Rattle.letter_acts.specs.Frames.{Columns, IsState, added, globals_from, old_
 use Rattle.letter_acts.specs.Values.{put_all}
 use Rattle.letter_acts.specs.Meaning.{InsideLeads}
 use Rattle.boogie_run.specs.Needs.{locals_at}
-use Rattle.lowered_steps.specs.ProgramFrames.{frame_at, width_at, variable_values, shown}
+use Rattle.lowered_graph.specs.LoweredSteps.ProgramFrames.{frame_at, width_at, variable_values, shown}
 use Rattle.lowered_graph.specs.Arcs.{entering_rows}
 
 -- ---- values of a list

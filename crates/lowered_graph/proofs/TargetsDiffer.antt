@@ -7,19 +7,19 @@ use Rattle.boogie_tree.specs.declared.tree.Column.{Column}
 use Rattle.boogie_tree.specs.declared.tree.Column.TheVariants as columns
 use Rattle.typed_tree.specs.TypedTree.{TypedExpression, TypedInvariant, TypedStatement, Assert, Assume, Havoc, Assign, Call, If, While, Break, Goto, Return, Label, TypedBlock, Empty, Then, TypedProcedure, TypedProgram}
 use Rattle.typed_tree.specs.AffineForm.{is_empty}
-use Rattle.typing_rules.specs.Counts.{plain_invariants, assertions, points, block_assertions, block_points, checked_at_call}
-use Rattle.typing_rules.specs.Rules.{Context, all_differ, same_column, is_writable, are_targets, values_agree, meets, is_call, within, looped, context_of}
-use Rattle.typing_rules.specs.Laws.{StandsIn, here, after, in_then, in_else, in_loop, in_body}
-use Rattle.typing_rules.specs.ValidProgram.{is_valid}
-use Rattle.typing_rules.proofs.ValidLaws as valid
+use Rattle.typed_tree.specs.TypingRules.Counts.{plain_invariants, assertions, points, block_assertions, block_points, checked_at_call}
+use Rattle.typed_tree.specs.TypingRules.Rules.{Context, all_differ, same_column, is_writable, are_targets, values_agree, meets, is_call, within, looped, context_of}
+use Rattle.typed_tree.specs.TypingRules.Laws.{StandsIn, here, after, in_then, in_else, in_loop, in_body}
+use Rattle.typed_tree.specs.TypingRules.ValidProgram.{is_valid}
+use Rattle.typed_tree.proofs.TypingRules.ValidLaws as valid
 use Rattle.nwa_base.specs.Members.{Member}
 use Rattle.nwa_base.proofs.LetterLemmas.{eqb-refl}
 use Rattle.letter_acts.specs.Invariant.{AreDistinct}
-use Rattle.boogie_points.specs.Points.{Todo, Start, Entry, Point, at_exit, before, past, Exit}
-use Rattle.boogie_points.specs.Actions as actions
-use Rattle.boogie_points.specs.Actions.{Action, next_part, action_at, stage_action, exit_action, checked, free_conditions, ensured_conditions, start_conditions, first_assertion, first_place}
-use Rattle.boogie_points.specs.Starts.{targets_of_statement, targets_at}
-use Rattle.boogie_places.specs.Places.{parts_from, at_statement, points_in, points_of, points_of_body, IsOneOf}
+use Rattle.boogie_run.specs.BoogiePoints.Points.{Todo, Start, Entry, Point, at_exit, before, past, Exit}
+use Rattle.boogie_run.specs.BoogiePoints.Actions as actions
+use Rattle.boogie_run.specs.BoogiePoints.Actions.{Action, next_part, action_at, stage_action, exit_action, checked, free_conditions, ensured_conditions, start_conditions, first_assertion, first_place}
+use Rattle.boogie_run.specs.BoogiePoints.Starts.{targets_of_statement, targets_at}
+use Rattle.boogie_run.specs.BoogiePlaces.Places.{parts_from, at_statement, points_in, points_of, points_of_body, IsOneOf}
 use Rattle.lowered_graph.proofs.KnownPlaces.{IsKnown, point_either}
 use Rattle.lowered_graph.proofs.CallPlaces.{GoesOn, StatementWrites, BlockWrites, TodoWrites, stage_on, part_back, known_stage, action_is}
 use Rattle.lowered_graph.proofs.Lists.{contained, not_both, or_right}

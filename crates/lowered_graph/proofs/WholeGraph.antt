@@ -4,16 +4,16 @@ use Rattle.std.specs.Prelude.{slice_get}
 use Rattle.std.specs.List.{AllByRecursion}
 use Rattle.boogie_tree.specs.declared.tree.Column.{Column}
 use Rattle.typed_tree.specs.TypedTree.{TypedExpression, TypedInvariant, TypedProcedure, TypedProgram}
-use Rattle.typing_rules.specs.ValidProgram.{is_valid}
+use Rattle.typed_tree.specs.TypingRules.ValidProgram.{is_valid}
 use Rattle.letter_acts.specs.Invariant.{AreDistinct, IsGraph}
-use Rattle.boogie_points.specs.Points.{Point, settled, past_first}
-use Rattle.boogie_points.specs.Actions as actions
-use Rattle.boogie_points.specs.Actions.{Action, action_at, called_action, unseen_action, chosen_columns, ensured_conditions}
-use Rattle.boogie_points.specs.Starts.{targets_at}
-use Rattle.lowered_steps.specs.Moves.{AreAssigned, IsTypedAction, IsNoImport, IsKnownCall}
-use Rattle.typing_rules.specs.Rules.{results_of}
-use Rattle.lowered_imports.specs.Imports.{IsModified, IsKnownImport, later}
-use Rattle.lowered_imports.specs.KnownPoints.{IsPointOf, StandsAtImport, PointsAreKnown, ImportsAreKnown}
+use Rattle.boogie_run.specs.BoogiePoints.Points.{Point, settled, past_first}
+use Rattle.boogie_run.specs.BoogiePoints.Actions as actions
+use Rattle.boogie_run.specs.BoogiePoints.Actions.{Action, action_at, called_action, unseen_action, chosen_columns, ensured_conditions}
+use Rattle.boogie_run.specs.BoogiePoints.Starts.{targets_at}
+use Rattle.lowered_graph.specs.LoweredSteps.Moves.{AreAssigned, IsTypedAction, IsNoImport, IsKnownCall}
+use Rattle.typed_tree.specs.TypingRules.Rules.{results_of}
+use Rattle.lowered_graph.specs.LoweredImports.Imports.{IsModified, IsKnownImport, later}
+use Rattle.lowered_graph.specs.LoweredImports.KnownPoints.{IsPointOf, StandsAtImport, PointsAreKnown, ImportsAreKnown}
 use Rattle.lowered_graph.specs.Lowered.{lowered}
 use Rattle.letter_acts.specs.Widths.{ActsFit}
 use Rattle.lowered_graph.proofs.KnownPlaces.{PlaceLaws, IsKnown}

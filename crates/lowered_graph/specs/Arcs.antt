@@ -6,15 +6,15 @@ use Rattle.lin_rows.specs.Sums.{row_of}
 use Rattle.lin_rows.specs.declared.types.RowKind.TheVariants.{Eq}
 use Rattle.letter_acts.specs.Acts.{PlainAct, inside_act, call_act}
 use Rattle.letter_acts.specs.Frames.{Columns, olds_of}
-use Rattle.free_products.specs.Letters.{MarkedConjunction}
-use Rattle.letter_table.specs.Letters.{Arc, inside_arc, call_arc, exact_act}
-use Rattle.boogie_points.specs.Points.{Point, at_exit, settled, past_first}
-use Rattle.boogie_points.specs.Actions as actions
-use Rattle.boogie_points.specs.Actions.{Action, action_at, ensured_conditions}
-use Rattle.boogie_points.specs.Starts.{point_of_call, start_point_of, targets_at}
-use Rattle.boogie_places.specs.Places.{Place, number_of, program_places}
-use Rattle.lowered_steps.specs.ProgramFrames.{frame_at}
-use Rattle.lowered_steps.specs.Edges.{Spot, At, Wrong, Edge, inside_edges, call_letters, numbers_in}
+use Rattle.cond_jumps.specs.FreeProducts.Letters.{MarkedConjunction}
+use Rattle.letter_acts.specs.LetterTable.Letters.{Arc, inside_arc, call_arc, exact_act}
+use Rattle.boogie_run.specs.BoogiePoints.Points.{Point, at_exit, settled, past_first}
+use Rattle.boogie_run.specs.BoogiePoints.Actions as actions
+use Rattle.boogie_run.specs.BoogiePoints.Actions.{Action, action_at, ensured_conditions}
+use Rattle.boogie_run.specs.BoogiePoints.Starts.{point_of_call, start_point_of, targets_at}
+use Rattle.boogie_run.specs.BoogiePlaces.Places.{Place, number_of, program_places}
+use Rattle.lowered_graph.specs.LoweredSteps.ProgramFrames.{frame_at}
+use Rattle.lowered_graph.specs.LoweredSteps.Edges.{Spot, At, Wrong, Edge, inside_edges, call_letters, numbers_in}
 
 -- ---- numbers of places
 

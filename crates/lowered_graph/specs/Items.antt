@@ -5,19 +5,19 @@ use Rattle.boogie_tree.specs.declared.span.Span.{Span}
 use Rattle.boogie_tree.specs.declared.tree.VarInfo.{VarInfo}
 use Rattle.typed_tree.specs.TypedTree.{TypedExpression, TypedInvariant, TypedStatement, Assert, Assume, Havoc, Assign, Call, If, While, Break, Goto, Return, Label, TypedBlock, Empty, Then, TypedProcedure, TypedProgram}
 use Rattle.typed_tree.specs.BrokenRules.{expression_span}
-use Rattle.typing_rules.specs.Counts.{checked_at_call}
+use Rattle.typed_tree.specs.TypingRules.Counts.{checked_at_call}
 use Rattle.letter_acts.specs.Frames.{Columns}
 use Rattle.cond_jumps.specs.Conjunctions.{Plan, is_wide, all_fit}
 use Rattle.cond_jumps.specs.Frames.{fixed_in}
 use Rattle.cond_jumps.specs.Lists.{assign_width}
-use Rattle.free_products.specs.FrameLetters.{widened, product_count, all_product_count, passed_count, told_condition, freed_path_plan, freed_assign_plan, freed_passed_plan}
-use Rattle.boogie_points.specs.Points.{Todo, Start, Entry, Body, Exit, Stage, Point}
-use Rattle.boogie_points.specs.Actions as actions
-use Rattle.boogie_points.specs.Actions.{Action, action_at, plain_conditions, free_conditions, ensured_conditions}
-use Rattle.boogie_points.specs.Starts.{targets_at}
-use Rattle.boogie_places.specs.Places.{Place, parts_from, program_places}
-use Rattle.lowered_steps.specs.ProgramFrames.{frame_at, width_at}
-use Rattle.lowered_steps.specs.Edges.{import_written, import_products, import_plan, those_in, call_plan, local_count, numbers_in}
+use Rattle.cond_jumps.specs.FreeProducts.FrameLetters.{widened, product_count, all_product_count, passed_count, told_condition, freed_path_plan, freed_assign_plan, freed_passed_plan}
+use Rattle.boogie_run.specs.BoogiePoints.Points.{Todo, Start, Entry, Body, Exit, Stage, Point}
+use Rattle.boogie_run.specs.BoogiePoints.Actions as actions
+use Rattle.boogie_run.specs.BoogiePoints.Actions.{Action, action_at, plain_conditions, free_conditions, ensured_conditions}
+use Rattle.boogie_run.specs.BoogiePoints.Starts.{targets_at}
+use Rattle.boogie_run.specs.BoogiePlaces.Places.{Place, parts_from, program_places}
+use Rattle.lowered_graph.specs.LoweredSteps.ProgramFrames.{frame_at, width_at}
+use Rattle.lowered_graph.specs.LoweredSteps.Edges.{import_written, import_products, import_plan, those_in, call_plan, local_count, numbers_in}
 use Rattle.boogie_tree.specs.Apart.{nowhere}
 use Rattle.boogie_tree.specs.Spans.{stands_before}
 

@@ -2,7 +2,7 @@
 use Rattle.std.specs.Prelude.{◌≡◌, ℕ, false, IsTrue, List, []}
 use Rattle.std.specs.List.{AllByRecursion}
 use Rattle.typed_tree.specs.TypedTree.{TypedProgram}
-use Rattle.typing_rules.specs.ValidProgram.{is_valid}
+use Rattle.typed_tree.specs.TypingRules.ValidProgram.{is_valid}
 use Rattle.nwa_base.specs.declared.letters.Letter.{Letter}
 use Rattle.nwa_base.specs.Automata.{IsAutomaton}
 use Rattle.nwa_base.specs.Members.{Member}
@@ -11,7 +11,7 @@ use Rattle.letter_acts.specs.Feasible.{IsFeasible, edges}
 use Rattle.letter_acts.specs.Ways.{Goes}
 use Rattle.letter_acts.specs.Invariant.{Graph, IsGraph, alphabet_of, mark_at}
 use Rattle.boogie_run.specs.Runs.{Fails}
-use Rattle.lowered_steps.specs.Stacks.{MachineFails, MachineFailsExactly}
+use Rattle.lowered_graph.specs.LoweredSteps.Stacks.{MachineFails, MachineFailsExactly}
 use Rattle.lowered_graph.specs.Lowered.{lowered}
 use Rattle.lowered_graph.specs.PlainPoints.{PointsArePlain}
 use Rattle.letter_acts.specs.Widths.{ActsFit}

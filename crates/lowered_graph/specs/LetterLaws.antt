@@ -4,7 +4,7 @@ use Rattle.nwa_base.specs.declared.letters.Letter.{Letter}
 use Rattle.nwa_base.specs.Members.{Member}
 use Rattle.letter_acts.specs.Acts.{back_act, letter_of}
 use Rattle.letter_acts.specs.Invariant.{AreDistinct}
-use Rattle.letter_table.specs.Letters.{MarkedAct, exact_act, Arc, inside_arc, call_arc, same_marked, Lettered, with_arcs, lettered}
+use Rattle.letter_acts.specs.LetterTable.Letters.{MarkedAct, exact_act, Arc, inside_arc, call_arc, same_marked, Lettered, with_arcs, lettered}
 
 -- The test of two acts with their marks passes exactly where they are one.
 abbrev pub SameActDecides : Type 0

@@ -4,3 +4,8 @@ pub mod Lowered
 pub mod Items
 pub mod PlainPoints
 pub mod Laws
+pub mod LoweredSteps
+pub mod LoweredImports
+pub mod LoweredRuns
+pub mod LoweredChoices
+pub mod LoweredParts

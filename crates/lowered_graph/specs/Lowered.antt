@@ -6,13 +6,13 @@ use Rattle.typed_tree.specs.TypedTree.{TypedProcedure, TypedProgram}
 use Rattle.nwa_base.specs.Automata.{Automaton}
 use Rattle.letter_acts.specs.declared.sites.Site.{Site}
 use Rattle.letter_acts.specs.Invariant.{Graph, site_places}
-use Rattle.boogie_points.specs.Actions as actions
-use Rattle.boogie_points.specs.Actions.{Action, action_at}
-use Rattle.boogie_points.specs.Starts.{point_of_call}
-use Rattle.boogie_places.specs.Places.{Place, program_places}
-use Rattle.lowered_steps.specs.ProgramFrames.{frame_at}
+use Rattle.boogie_run.specs.BoogiePoints.Actions as actions
+use Rattle.boogie_run.specs.BoogiePoints.Actions.{Action, action_at}
+use Rattle.boogie_run.specs.BoogiePoints.Starts.{point_of_call}
+use Rattle.boogie_run.specs.BoogiePlaces.Places.{Place, program_places}
+use Rattle.lowered_graph.specs.LoweredSteps.ProgramFrames.{frame_at}
 use Rattle.lowered_graph.specs.Arcs.{place_number, first_error, error_place, return_place, program_arcs}
-use Rattle.letter_table.specs.Letters.{Lettered, lettered}
+use Rattle.letter_acts.specs.LetterTable.Letters.{Lettered, lettered}
 
 -- ---- assertions
 

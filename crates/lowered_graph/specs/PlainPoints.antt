@@ -4,12 +4,12 @@ use Rattle.std.specs.List.{AllByRecursion}
 use Rattle.typed_tree.specs.TypedTree.{TypedExpression, TypedProcedure, TypedProgram}
 use Rattle.letter_acts.specs.Frames.{Columns}
 use Rattle.cond_jumps.specs.Frames.{fixed_in}
-use Rattle.free_products.specs.FreeProducts.{free_products}
-use Rattle.boogie_points.specs.Points.{Point}
-use Rattle.boogie_points.specs.Actions as actions
-use Rattle.boogie_points.specs.Actions.{Action, action_at, ensured_conditions}
-use Rattle.lowered_steps.specs.ProgramFrames.{frame_at}
-use Rattle.lowered_imports.specs.KnownPoints.{IsPointOf}
+use Rattle.cond_jumps.specs.FreeProducts.FreeProducts.{free_products}
+use Rattle.boogie_run.specs.BoogiePoints.Points.{Point}
+use Rattle.boogie_run.specs.BoogiePoints.Actions as actions
+use Rattle.boogie_run.specs.BoogiePoints.Actions.{Action, action_at, ensured_conditions}
+use Rattle.lowered_graph.specs.LoweredSteps.ProgramFrames.{frame_at}
+use Rattle.lowered_graph.specs.LoweredImports.KnownPoints.{IsPointOf}
 
 -- the expression has no free product
 abbrev pub HasNone : Columns → TypedExpression → Type 0

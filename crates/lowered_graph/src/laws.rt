@@ -3,9 +3,9 @@
 ghost use Rattle.lowered_graph.specs.LetterLaws as letters;
 ghost use Rattle.lowered_graph.specs.Laws as law;
 
-use boogie_places::laws::places_of_typed_programs;
-use lowered_imports::laws::points_of_typed_programs;
-use lowered_runs::laws::machines_of_typed_programs;
+use crate::lowered_imports::laws::points_of_typed_programs;
+use crate::lowered_runs::laws::machines_of_typed_programs;
+use boogie_run::boogie_places::laws::places_of_typed_programs;
 
 /// Equal acts are one letter: the list of acts has no act twice and only grows, and the edges by letters are exactly those of the
 /// arcs, each by the letter of its act.

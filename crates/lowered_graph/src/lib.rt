@@ -2,3 +2,8 @@
 #![tactic(auto)]
 
 pub mod laws;
+pub mod lowered_choices;
+pub mod lowered_imports;
+pub mod lowered_parts;
+pub mod lowered_runs;
+pub mod lowered_steps;

@@ -6,7 +6,7 @@ use Rattle.std.proofs.Math.Seq.{drop-cons}
 use Rattle.typed_tree.specs.declared.types.TSpec.{TSpec}
 use Rattle.typed_tree.specs.TypedTree.{TypedExpression, TypedSpecification, Requires, Ensures}
 use Rattle.typed_tree.specs.TypedView.{specification}
-use Rattle.call_jumps.specs.CallLists.{ensured}
+use Rattle.icfg_lower.specs.CallJumps.CallLists.{ensured}
 
 -- what is known of what was found
 pub of_found : {X Y Z : Type 0} (f : X → Z) (z : Z) (o : Option X) (p : Option Y) (x : X) → option_map f o ≡ option_map (λ y. z) p → o ≡ Some x → f x ≡ z

@@ -6,11 +6,11 @@ ghost use Rattle.typed_tree.specs.TypedView.{expression, specification};
 ghost use Rattle.typed_tree.specs.AffineForm.{forms_fit};
 ghost use Rattle.typed_tree.specs.Scope.{is_constant_column};
 ghost use Rattle.cond_jumps.specs.Frames.{fixed_in};
-ghost use Rattle.call_jumps.specs.CallLists.{ensured};
+ghost use Rattle.icfg_lower.specs.CallJumps.CallLists.{ensured};
 
 use boogie_tree::VarInfo;
+use icfg_lower::program_layout::Layout;
 use letter_acts::Frame;
-use program_layout::Layout;
 use std::alloc::Global;
 use typed_tree::{TExpr, TSpec, has_constant_form};
 

@@ -6,14 +6,14 @@ use crate::lists::{show_conjunction, show_fault, show_nothing};
 use crate::printing::{end_line, show_line, show_numbers, show_text};
 use crate::stand_ins::enlarged;
 use boogie_tree::Column;
-use call_jumps::{Import, demanded, imported, parameters};
+use cond_jumps::free_products::MarkedConj;
 use cond_jumps::{JumpFault, place};
-use free_products::MarkedConj;
+use icfg_lower::call_jumps::{Import, demanded, imported, parameters};
+use icfg_lower::program_layout::Layout;
 use letter_acts::Frame;
-use program_layout::Layout;
 use std::alloc::{AllocError, Global};
+use typed_tree::typing_rules::Typed;
 use typed_tree::{TExpr, TProc, TSpec};
-use typing_rules::Typed;
 
 fn condition(specification: &TSpec) -> &TExpr {
     match specification {

@@ -5,11 +5,11 @@ use crate::printing::{
     end_line, show_count, show_line, show_no_memory, show_number, show_numbers, show_text,
 };
 use boogie_tree::{Ty, VarInfo};
-use label_places::{before_last_labels, labels_of};
+use icfg_lower::label_places::{before_last_labels, labels_of};
+use icfg_lower::program_layout::{Layout, Marks, has_ended, lay_out};
 use letter_acts::Frame;
-use program_layout::{Layout, Marks, has_ended, lay_out};
 use typed_tree::TProc;
-use typing_rules::Typed;
+use typed_tree::typing_rules::Typed;
 
 fn show_found(rt: &HostRuntime, number: u32, labels: &[u32]) {
     show_number(rt, "labels of ", number);

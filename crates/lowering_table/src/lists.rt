@@ -7,10 +7,10 @@ use crate::printing::{end_line, show_count, show_line, show_number, show_text};
 use crate::stand_ins::enlarged;
 use boogie_tree::Column;
 use cond_jumps::{Conj, JumpFault, assign, paths};
+use icfg_lower::program_layout::{Layout, lay_out};
 use letter_acts::Frame;
-use program_layout::{Layout, lay_out};
+use typed_tree::typing_rules::Typed;
 use typed_tree::{TExpr, TProc, TStmt};
-use typing_rules::Typed;
 
 /// What is asked of a statement.
 #[derive(Clone, Copy)]

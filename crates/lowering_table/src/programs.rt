@@ -2,7 +2,7 @@
 
 ghost use Rattle.std.specs.Prelude.{IfSome};
 ghost use Rattle.boogie_tree.specs.View.{program as tree};
-ghost use Rattle.boogie_parse.specs.PrintedTokens.{IsSpellableProgram};
+ghost use Rattle.boogie_parse.specs.Spelling.PrintedTokens.{IsSpellableProgram};
 
 use crate::graphs::show_graph;
 use crate::printing::{end_line, show_line, show_no_memory, show_number};
@@ -12,7 +12,7 @@ use boogie_tree::{Program, Span};
 use boogie_types::resolve;
 use icfg_lower::{LowerFault, lower};
 use table_reading::{numbers, parted, values};
-use typing_rules::Typed;
+use typed_tree::typing_rules::Typed;
 
 /// The most bytes of a program.
 const MOST_BYTES: usize = 1_048_576;

@@ -10,7 +10,7 @@ use crate::tables::{show_letter, show_table};
 use icfg_lower::lower;
 use std::alloc::{AllocError, Global};
 use table_reading::parted;
-use typing_rules::Typed;
+use typed_tree::typing_rules::Typed;
 
 /// What is asked.
 #[derive(Clone, Copy)]

@@ -5,7 +5,7 @@ ghost use Rattle.std.specs.List.{AllByRecursion};
 ghost use Rattle.math_facts.specs.Fits.{Fits};
 ghost use Rattle.lin_rows.specs.Rows.{Holds};
 ghost use Rattle.lin_rows.specs.Points.{point_of};
-ghost use Rattle.typing_rules.specs.TypedParts.{typed_program};
+ghost use Rattle.typed_tree.specs.TypingRules.TypedParts.{typed_program};
 ghost use Rattle.nwa_base.specs.Acceptance.{Accepts};
 ghost use Rattle.lowered_graph.specs.Lowered.{lowered};
 ghost use Rattle.path_rows.specs.Paths.{path_of};
@@ -18,7 +18,7 @@ use nwa_base::{Kind, Letter, Word, accepts, word};
 use path_rows::rows_of;
 use std::alloc::{AllocError, Global};
 use trace_replay::{ReplayFault, Trail, choices_of, replay};
-use typing_rules::Typed;
+use typed_tree::typing_rules::Typed;
 
 /// The kind of a letter that does this, and the call letter that it names.
 fn kind_of(act: &Act) -> (Kind, u32) {

@@ -1,8 +1,8 @@
 //! Numbers for which the rules of typing would refuse a sum.
 
 use std::alloc::AllocError;
+use typed_tree::typing_rules::Typed;
 use typed_tree::{TExpr, TExprKind, TProc, TSpec, TStmt};
-use typing_rules::Typed;
 
 /// The literal that stands for the greatest number.
 const STAND_IN: i128 = 999;

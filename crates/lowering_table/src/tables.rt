@@ -4,7 +4,7 @@ use crate::acts::read_act;
 use crate::graphs::{show_act, show_acts};
 use crate::printing::{end_line, show_line, show_no_memory, show_number};
 use letter_acts::Act;
-use letter_table::{CallEdges, CallStep, InsideStep, Lettered, Table};
+use letter_acts::letter_table::{CallEdges, CallStep, InsideStep, Lettered, Table};
 use lin_rows::RowFault;
 use nwa_base::Letter;
 use std::alloc::Global;

@@ -1,6 +1,8 @@
 //! Facts about lists and whole numbers that several crates need, and the calculations that several make.
 #![tactic(auto)]
 
+pub mod random_numbers;
+
 ghost use Rattle.std.specs.Prelude.{◌≡◌, ◌%◌, ◌^◌, ◌<◌, ◌≤◌, ◌*ℤ◌, unsigned_abs, FitsSigned, IsTrue, SomeIff};
 ghost use Rattle.std.specs.Int.{w128, IsGcd};
 

@@ -3,7 +3,7 @@ use Rattle.std.proofs.Common.{◌≡◌, ℕ, zero, suc, ℤ, Bool, true, false,
 use Rattle.std.proofs.lemmas.Bool.Decides.{nat_tests}
 use Rattle.std.proofs.lemmas.Bool.{or_from}
 use Rattle.typed_tree.specs.Values.{member}
-use Rattle.typing_rules.specs.Rules.{is_member}
+use Rattle.typed_tree.specs.TypingRules.Rules.{is_member}
 use Rattle.boogie_run.specs.Steps.{put, all_put}
 
 -- the same values but at these numbers

@@ -6,10 +6,10 @@ use Rattle.std.proofs.lemmas.Option.{slice_get_within, slice_get_read}
 use Rattle.std.proofs.lemmas.List.{length-map, length-drop, map-append, take_all}
 use Rattle.boogie_tree.specs.Names.{is_name}
 use Rattle.typed_tree.specs.TypedTree.{TypedBlock, TypedProcedure, TypedProgram}
-use Rattle.typing_rules.specs.Rules.{meets}
-use Rattle.typing_rules.specs.Counts.{numbers_fit}
-use Rattle.typing_rules.specs.ValidProgram.{has_body, is_typed, is_valid}
-use Rattle.typing_rules.proofs.ValidLaws as valid_laws
+use Rattle.typed_tree.specs.TypingRules.Rules.{meets}
+use Rattle.typed_tree.specs.TypingRules.Counts.{numbers_fit}
+use Rattle.typed_tree.specs.TypingRules.ValidProgram.{has_body, is_typed, is_valid}
+use Rattle.typed_tree.proofs.TypingRules.ValidLaws as valid_laws
 use Rattle.modular_cut.specs.Parts.{without_body, copy_of, own_procedure, cut_procs, copies, procedure_part, PlainPart, part_at, parts_from_number}
 use Rattle.modular_cut.proofs.Called.{get_map}
 use Rattle.modular_cut.proofs.TypedParts.{parts_are_typed}

@@ -4,7 +4,7 @@ use Rattle.std.proofs.lemmas.Bool.Decides.{nat_tests}
 use Rattle.boogie_tree.specs.declared.span.Span.{Span}
 use Rattle.typed_tree.specs.TypedTree.{TypedProgram}
 use Rattle.boogie_tree.specs.Spans.{stands_before}
-use Rattle.modular_cut.specs.Earliest.{earlier, earliest}
+use Rattle.modular_cut.specs.Ties.Earliest.{earlier, earliest}
 use Rattle.modular_cut.specs.FreeConditions.{free_spans, IsNotAfter, IsFirstFree}
 
 not_after_self : (a : Span) → IsNotAfter a a

@@ -10,27 +10,27 @@ use Rattle.boogie_tree.specs.declared.tree.VarInfo.{VarInfo}
 use Rattle.typed_tree.specs.TypedTree.{TypedExpression, TypedInvariant, TypedBlock, TypedProcedure, TypedProgram}
 use Rattle.typed_tree.specs.Scope.{requires_scope}
 use Rattle.typed_tree.specs.Values.{State, member, value}
-use Rattle.typing_rules.specs.Rules.{is_condition, params_of}
-use Rattle.typing_rules.specs.ValidProgram.{is_valid}
-use Rattle.boogie_points.specs.Points.{Start, Point}
-use Rattle.boogie_points.specs.Actions as actions
-use Rattle.boogie_points.specs.Actions.{Action, action_at, plain_conditions, unseen_action, start_conditions, start_action, first_point, first_assertion, first_place, stage_action, body_or_leave, procedure_action, next_part}
-use Rattle.boogie_points.specs.Starts.{point_of_procedure, point_of_call, unless_none, start_point_of}
+use Rattle.typed_tree.specs.TypingRules.Rules.{is_condition, params_of}
+use Rattle.typed_tree.specs.TypingRules.ValidProgram.{is_valid}
+use Rattle.boogie_run.specs.BoogiePoints.Points.{Start, Point}
+use Rattle.boogie_run.specs.BoogiePoints.Actions as actions
+use Rattle.boogie_run.specs.BoogiePoints.Actions.{Action, action_at, plain_conditions, unseen_action, start_conditions, start_action, first_point, first_assertion, first_place, stage_action, body_or_leave, procedure_action, next_part}
+use Rattle.boogie_run.specs.BoogiePoints.Starts.{point_of_procedure, point_of_call, unless_none, start_point_of}
 use Rattle.boogie_run.specs.Configurations.{Config, state_of}
 use Rattle.boogie_run.specs.Needs.{locals_at, need_of_action, is_taken}
 use Rattle.boogie_run.specs.Runs.{IsSafe}
 use Rattle.boogie_run.specs.Steps.{Went, Blocked, values, is_true, moved_to, passed_state, entered, start, act}
-use Rattle.lowered_steps.specs.ProgramFrames.{frame_at}
-use Rattle.lowered_steps.specs.Moves.{HasTypes, IsGood, IsMove, IsNoImport, IsKnownCall, KnowsPoints, filled}
-use Rattle.lowered_steps.proofs.Goodness.{append_none, arguments_length}
-use Rattle.lowered_imports.specs.Imports.{IsImport}
-use Rattle.lowered_imports.specs.KnownPoints.{IsPointOf}
-use Rattle.lowered_imports.proofs.PointLaws.{knows_points}
-use Rattle.lowered_runs.proofs.Forward.{Follows, enter_follows}
-use Rattle.lowered_runs.proofs.Machine.{start_runs}
-use Rattle.lowered_runs.proofs.MachineLaws.{imports_are_steps}
-use Rattle.lowered_runs.proofs.MovesOfRuns.{breaks_run}
-use Rattle.lowered_runs.proofs.Taken.{all_at}
+use Rattle.lowered_graph.specs.LoweredSteps.ProgramFrames.{frame_at}
+use Rattle.lowered_graph.specs.LoweredSteps.Moves.{HasTypes, IsGood, IsMove, IsNoImport, IsKnownCall, KnowsPoints, filled}
+use Rattle.lowered_graph.proofs.LoweredSteps.Goodness.{append_none, arguments_length}
+use Rattle.lowered_graph.specs.LoweredImports.Imports.{IsImport}
+use Rattle.lowered_graph.specs.LoweredImports.KnownPoints.{IsPointOf}
+use Rattle.lowered_graph.proofs.LoweredImports.PointLaws.{knows_points}
+use Rattle.lowered_graph.proofs.LoweredRuns.Forward.{Follows, enter_follows}
+use Rattle.lowered_graph.proofs.LoweredRuns.Machine.{start_runs}
+use Rattle.lowered_graph.proofs.LoweredRuns.MachineLaws.{imports_are_steps}
+use Rattle.lowered_graph.proofs.LoweredRuns.MovesOfRuns.{breaks_run}
+use Rattle.lowered_graph.proofs.LoweredRuns.Taken.{all_at}
 use Rattle.modular_cut.specs.Parts.{recalled_block, own_procedure, procedure_part}
 use Rattle.modular_cut.proofs.Called.{part_program}
 use Rattle.modular_cut.proofs.SamePoints.{SamePoint}

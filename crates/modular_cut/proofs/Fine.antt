@@ -5,21 +5,21 @@ use Rattle.boogie_tree.specs.declared.tree.Column.{Column}
 use Rattle.boogie_tree.specs.declared.tree.Column.TheVariants as columns
 use Rattle.typed_tree.specs.TypedTree.{TypedInvariant, TypedProcedure, TypedProgram}
 use Rattle.typed_tree.specs.Values.{State, value}
-use Rattle.typing_rules.specs.Rules.{is_member}
-use Rattle.typing_rules.specs.ValidProgram.{is_valid}
-use Rattle.boogie_points.specs.Points.{Point}
-use Rattle.boogie_points.specs.Actions.{next_part}
+use Rattle.typed_tree.specs.TypingRules.Rules.{is_member}
+use Rattle.typed_tree.specs.TypingRules.ValidProgram.{is_valid}
+use Rattle.boogie_run.specs.BoogiePoints.Points.{Point}
+use Rattle.boogie_run.specs.BoogiePoints.Actions.{next_part}
 use Rattle.boogie_run.specs.Configurations.{Frame, Config, state_of}
 use Rattle.boogie_run.specs.Steps.{written, all_written, is_true}
-use Rattle.lowered_steps.specs.Moves.{IsGood, IsMove}
-use Rattle.lowered_steps.proofs.Places.{state_written, all_state_written}
-use Rattle.lowered_imports.specs.Imports.{IsImport}
-use Rattle.lowered_imports.specs.KnownPoints.{IsPointOf}
-use Rattle.lowered_imports.proofs.PointLaws.{knows_points}
-use Rattle.lowered_runs.proofs.Breaks.{Breaks}
-use Rattle.lowered_runs.proofs.Forward.{forward}
-use Rattle.lowered_runs.proofs.Imports.{ImportsAreSteps}
-use Rattle.lowered_runs.proofs.MachineLaws.{imports_are_steps}
+use Rattle.lowered_graph.specs.LoweredSteps.Moves.{IsGood, IsMove}
+use Rattle.lowered_graph.proofs.LoweredSteps.Places.{state_written, all_state_written}
+use Rattle.lowered_graph.specs.LoweredImports.Imports.{IsImport}
+use Rattle.lowered_graph.specs.LoweredImports.KnownPoints.{IsPointOf}
+use Rattle.lowered_graph.proofs.LoweredImports.PointLaws.{knows_points}
+use Rattle.lowered_graph.proofs.LoweredRuns.Breaks.{Breaks}
+use Rattle.lowered_graph.proofs.LoweredRuns.Forward.{forward}
+use Rattle.lowered_graph.proofs.LoweredRuns.Imports.{ImportsAreSteps}
+use Rattle.lowered_graph.proofs.LoweredRuns.MachineLaws.{imports_are_steps}
 use Rattle.modular_cut.proofs.SameActions.{claims, claim_state, GoesOn, Leaves, IsWithin}
 use Rattle.modular_cut.proofs.ChosenGlobals.{DifferIn, put_elsewhere}
 

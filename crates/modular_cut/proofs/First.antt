@@ -2,7 +2,7 @@
 use Rattle.std.proofs.Common.{◌≡◌, ℕ, ◌+◌, ◌<◌, ◌≤◌, List, [], ◌∷◌, ◌++◌, length, drop, get_or, Option, refl, ap, sym, ◌∙◌}
 use Rattle.std.proofs.lemmas.List.{at_drop_more, at_drop_all}
 use Rattle.boogie_tree.specs.declared.span.Span.{Span}
-use Rattle.modular_cut.specs.Earliest.{earlier, earliest}
+use Rattle.modular_cut.specs.Ties.Earliest.{earlier, earliest}
 
 pub earliest_append : (o : Option Span) (xs ys : List Span) → earliest o (xs ++ ys) ≡ earliest (earliest o xs) ys
 earliest_append o [] ys = refl

@@ -7,23 +7,23 @@ use Rattle.boogie_tree.specs.declared.tree.VarInfo.{VarInfo}
 use Rattle.typed_tree.specs.TypedTree.{TypedExpression, TypedBlock, TypedSpecification, Requires, Ensures, TypedProcedure, TypedProgram}
 use Rattle.typed_tree.specs.Scope.{axiom_scope, requires_scope, body_scope}
 use Rattle.typed_tree.specs.Values.{State, member, value}
-use Rattle.typing_rules.specs.Rules.{is_condition, is_specification, is_body_if_any, context_of, params_of, procedure_keeps_rules, keeps_typing}
-use Rattle.typing_rules.specs.Shape.{has_shape}
-use Rattle.typing_rules.specs.Counts.{numbers_fit}
-use Rattle.typing_rules.specs.ValidProgram.{has_entry, is_typed, is_valid}
-use Rattle.boogie_points.specs.Points.{Point}
-use Rattle.boogie_points.specs.Actions as actions
-use Rattle.boogie_points.specs.Actions.{Action, action_at, plain_conditions, ensured_conditions}
+use Rattle.typed_tree.specs.TypingRules.Rules.{is_condition, is_specification, is_body_if_any, context_of, params_of, procedure_keeps_rules, keeps_typing}
+use Rattle.typed_tree.specs.TypingRules.Shape.{has_shape}
+use Rattle.typed_tree.specs.TypingRules.Counts.{numbers_fit}
+use Rattle.typed_tree.specs.TypingRules.ValidProgram.{has_entry, is_typed, is_valid}
+use Rattle.boogie_run.specs.BoogiePoints.Points.{Point}
+use Rattle.boogie_run.specs.BoogiePoints.Actions as actions
+use Rattle.boogie_run.specs.BoogiePoints.Actions.{Action, action_at, plain_conditions, ensured_conditions}
 use Rattle.boogie_run.specs.Configurations.{Frame, Config, state_of}
 use Rattle.boogie_run.specs.Needs.{Need, locals_if_any, locals_at, is_taken}
 use Rattle.boogie_run.specs.Runs.{IsSafe}
 use Rattle.boogie_run.specs.Steps.{is_true, moved_to}
-use Rattle.lowered_steps.specs.Moves.{HasTypes, IsGood, IsMove, filled}
-use Rattle.lowered_steps.proofs.Goodness.{append_none, done_is}
-use Rattle.lowered_imports.specs.KnownPoints.{IsPointOf}
-use Rattle.lowered_imports.proofs.RightPoints.{PointRight}
-use Rattle.lowered_imports.proofs.PointLaws.{knows_points, point_right}
-use Rattle.lowered_runs.proofs.Forward.{IsOwn, Follows, move_own}
+use Rattle.lowered_graph.specs.LoweredSteps.Moves.{HasTypes, IsGood, IsMove, filled}
+use Rattle.lowered_graph.proofs.LoweredSteps.Goodness.{append_none, done_is}
+use Rattle.lowered_graph.specs.LoweredImports.KnownPoints.{IsPointOf}
+use Rattle.lowered_graph.proofs.LoweredImports.RightPoints.{PointRight}
+use Rattle.lowered_graph.proofs.LoweredImports.PointLaws.{knows_points, point_right}
+use Rattle.lowered_graph.proofs.LoweredRuns.Forward.{IsOwn, Follows, move_own}
 use Rattle.modular_cut.specs.Parts.{own_procedure, procedure_part}
 use Rattle.modular_cut.proofs.Called.{Renumbers, calls, part_procs, procs_are, own_is, renumbered, part_program}
 use Rattle.modular_cut.proofs.SamePoints.{SamePoint}

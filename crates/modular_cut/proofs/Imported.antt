@@ -4,17 +4,17 @@ use Rattle.std.specs.List.{AllByRecursion}
 use Rattle.boogie_tree.specs.declared.tree.Column.{Column}
 use Rattle.typed_tree.specs.TypedTree.{TypedExpression, TypedInvariant, TypedProcedure, TypedProgram}
 use Rattle.typed_tree.specs.Values.{State, value}
-use Rattle.typing_rules.specs.Rules.{results_of}
-use Rattle.typing_rules.specs.ValidProgram.{is_valid}
-use Rattle.boogie_points.specs.Points.{Point, settled, past_first}
-use Rattle.boogie_points.specs.Actions.{Action, action_at, chosen_columns, ensured_conditions, unseen_action}
-use Rattle.boogie_points.specs.Starts.{targets_at}
+use Rattle.typed_tree.specs.TypingRules.Rules.{results_of}
+use Rattle.typed_tree.specs.TypingRules.ValidProgram.{is_valid}
+use Rattle.boogie_run.specs.BoogiePoints.Points.{Point, settled, past_first}
+use Rattle.boogie_run.specs.BoogiePoints.Actions.{Action, action_at, chosen_columns, ensured_conditions, unseen_action}
+use Rattle.boogie_run.specs.BoogiePoints.Starts.{targets_at}
 use Rattle.boogie_run.specs.Configurations.{Config, state_of}
 use Rattle.boogie_run.specs.Steps.{all_put, granted_state, is_true}
-use Rattle.lowered_steps.specs.Moves.{HasTypes, IsGood, IsNoImport}
-use Rattle.lowered_imports.specs.Imports.{later, AreGlobalValues, keeping, IsImport}
-use Rattle.lowered_imports.specs.KnownPoints.{IsPointOf}
-use Rattle.lowered_runs.proofs.MachineLaws.{imports_are_steps}
+use Rattle.lowered_graph.specs.LoweredSteps.Moves.{HasTypes, IsGood, IsNoImport}
+use Rattle.lowered_graph.specs.LoweredImports.Imports.{later, AreGlobalValues, keeping, IsImport}
+use Rattle.lowered_graph.specs.LoweredImports.KnownPoints.{IsPointOf}
+use Rattle.lowered_graph.proofs.LoweredRuns.MachineLaws.{imports_are_steps}
 use Rattle.modular_cut.proofs.Called.{named_like, IsCallee, part_program}
 use Rattle.modular_cut.proofs.SamePoints.{settled_part}
 use Rattle.modular_cut.proofs.SameActions.{IsAtCall, SameStep, check, suppose, demand, write, guess, test, pick, jump, enter, import, leave}

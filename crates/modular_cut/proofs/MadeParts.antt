@@ -10,7 +10,7 @@ use Rattle.typed_tree.specs.declared.types.TProc.{TProc}
 use Rattle.typed_tree.specs.declared.types.TStmt.{TStmt}
 use Rattle.typed_tree.specs.TypedTree.{TypedProcedure}
 use Rattle.typed_tree.specs.TypedView as view
-use Rattle.typing_rules.specs.TypedParts.{TypedParts, typed_program}
+use Rattle.typed_tree.specs.TypingRules.TypedParts.{TypedParts, typed_program}
 use Rattle.modular_cut.specs.declared.cutting.Part.{Part}
 use Rattle.modular_cut.specs.Parts.{called_in, cut_procs, copies, procedure_part, PlainPart, part_if, part_at}
 use Rattle.modular_cut.specs.View.{plain_part}

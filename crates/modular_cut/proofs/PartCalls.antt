@@ -6,19 +6,19 @@ use Rattle.std.proofs.lemmas.Bool.Decides.{nat_tests}
 use Rattle.boogie_tree.specs.declared.tree.Column.{Column}
 use Rattle.typed_tree.specs.TypedTree.{TypedExpression, TypedInvariant, Assert, Assume, Havoc, Assign, Call, If, While, Break, Goto, Return, Label, TypedBlock, Empty, Then, TypedProcedure, TypedProgram}
 use Rattle.typed_tree.specs.Values.{State, member, value}
-use Rattle.typing_rules.specs.Rules.{is_member, results_of}
-use Rattle.typing_rules.specs.ValidProgram.{is_valid}
-use Rattle.boogie_points.specs.Points.{Todo, Point, settled, past_first}
-use Rattle.boogie_points.specs.Actions as actions
-use Rattle.boogie_points.specs.Actions.{Action, action_at, chosen_columns, ensured_conditions, unseen_action, called_action}
-use Rattle.boogie_points.specs.Starts.{targets_of_statement, targets_at}
+use Rattle.typed_tree.specs.TypingRules.Rules.{is_member, results_of}
+use Rattle.typed_tree.specs.TypingRules.ValidProgram.{is_valid}
+use Rattle.boogie_run.specs.BoogiePoints.Points.{Todo, Point, settled, past_first}
+use Rattle.boogie_run.specs.BoogiePoints.Actions as actions
+use Rattle.boogie_run.specs.BoogiePoints.Actions.{Action, action_at, chosen_columns, ensured_conditions, unseen_action, called_action}
+use Rattle.boogie_run.specs.BoogiePoints.Starts.{targets_of_statement, targets_at}
 use Rattle.boogie_run.specs.Configurations.{Config, state_of}
 use Rattle.boogie_run.specs.Steps.{values, put, all_put, all_written, modifies_of, granted_state, finished, moved_to, is_true}
-use Rattle.lowered_steps.specs.Moves.{HasTypes, IsNoImport}
-use Rattle.lowered_steps.proofs.Places.{all_state_written}
-use Rattle.lowered_imports.specs.Imports.{later, IsKnownImport, AreGlobalValues, keeping, IsImport}
-use Rattle.lowered_imports.specs.KnownPoints.{IsPointOf, StandsAtImport}
-use Rattle.lowered_imports.proofs.PointLaws.{imports_known}
+use Rattle.lowered_graph.specs.LoweredSteps.Moves.{HasTypes, IsNoImport}
+use Rattle.lowered_graph.proofs.LoweredSteps.Places.{all_state_written}
+use Rattle.lowered_graph.specs.LoweredImports.Imports.{later, IsKnownImport, AreGlobalValues, keeping, IsImport}
+use Rattle.lowered_graph.specs.LoweredImports.KnownPoints.{IsPointOf, StandsAtImport}
+use Rattle.lowered_graph.proofs.LoweredImports.PointLaws.{imports_known}
 use Rattle.modular_cut.specs.Parts.{recalled_block}
 use Rattle.modular_cut.proofs.SamePoints.{SameTodos, SamePoint, settled_same, past_first_same}
 use Rattle.modular_cut.proofs.ChosenGlobals.{put_elsewhere}

@@ -4,16 +4,16 @@ use Rattle.std.specs.Prelude.{unsigned_abs}
 use Rattle.boogie_tree.specs.declared.tree.Column.{Column}
 use Rattle.typed_tree.specs.TypedTree.{TypedInvariant, TypedProcedure, TypedProgram}
 use Rattle.typed_tree.specs.Values.{State, value}
-use Rattle.boogie_points.specs.Points.{Point}
-use Rattle.boogie_points.specs.Actions as actions
-use Rattle.boogie_points.specs.Actions.{Action, unseen_action}
+use Rattle.boogie_run.specs.BoogiePoints.Points.{Point}
+use Rattle.boogie_run.specs.BoogiePoints.Actions as actions
+use Rattle.boogie_run.specs.BoogiePoints.Actions.{Action, unseen_action}
 use Rattle.boogie_run.specs.Configurations.{Frame, Config, state_of}
 use Rattle.boogie_run.specs.Needs.{Below, need_of_column, need_of_action, locals_at}
 use Rattle.boogie_run.specs.Steps.{Went, Blocked, Failed, values, all_written, moved_to, passed_state, granted_state, is_true, went_if, left, act}
-use Rattle.lowered_steps.specs.Moves.{IsNoImport}
-use Rattle.lowered_steps.proofs.Places.{all_state_written}
-use Rattle.lowered_runs.proofs.Forward.{IsOwn}
-use Rattle.lowered_runs.proofs.Taken.{went_if_true, WentWay, went_way}
+use Rattle.lowered_graph.specs.LoweredSteps.Moves.{IsNoImport}
+use Rattle.lowered_graph.proofs.LoweredSteps.Places.{all_state_written}
+use Rattle.lowered_graph.proofs.LoweredRuns.Forward.{IsOwn}
+use Rattle.lowered_graph.proofs.LoweredRuns.Taken.{went_if_true, WentWay, went_way}
 use Rattle.modular_cut.proofs.SamePoints.{SamePoint, SamePoints, AreAtStart}
 use Rattle.modular_cut.proofs.SameActions.{SameStep, check, suppose, demand, write, guess, test, pick, jump, enter, import, leave}
 use Rattle.modular_cut.proofs.ChosenGlobals.{DifferIn}

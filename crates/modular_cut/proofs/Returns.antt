@@ -10,25 +10,25 @@ use Rattle.typed_tree.specs.TypedTree.{TypedInvariant, TypedProcedure, TypedProg
 use Rattle.typed_tree.specs.Scope.{body_scope}
 use Rattle.typed_tree.specs.Values.{State, member, value}
 use Rattle.letter_acts.specs.Frames.{IsValue}
-use Rattle.typing_rules.specs.Rules.{is_condition, results_of}
-use Rattle.typing_rules.specs.ValidProgram.{is_valid}
-use Rattle.boogie_points.specs.Points.{Point, settled, past_first}
-use Rattle.boogie_points.specs.Actions as actions
-use Rattle.boogie_points.specs.Actions.{Action, action_at, ensured_conditions, unseen_action}
-use Rattle.boogie_points.specs.Starts.{targets_at}
+use Rattle.typed_tree.specs.TypingRules.Rules.{is_condition, results_of}
+use Rattle.typed_tree.specs.TypingRules.ValidProgram.{is_valid}
+use Rattle.boogie_run.specs.BoogiePoints.Points.{Point, settled, past_first}
+use Rattle.boogie_run.specs.BoogiePoints.Actions as actions
+use Rattle.boogie_run.specs.BoogiePoints.Actions.{Action, action_at, ensured_conditions, unseen_action}
+use Rattle.boogie_run.specs.BoogiePoints.Starts.{targets_at}
 use Rattle.boogie_run.specs.Configurations.{Frame, Config, state_of}
 use Rattle.boogie_run.specs.Needs.{locals_if_any}
 use Rattle.boogie_run.specs.Steps.{Went, values, all_put, all_written, results_if_any, results_left, left, moved_to, is_true, act}
-use Rattle.lowered_steps.specs.ProgramFrames.{frame_at}
-use Rattle.lowered_steps.specs.Moves.{HasTypes, FrameIsGood, BelowIsGood, IsGood, Awaits, IsMove}
-use Rattle.lowered_steps.proofs.FrameColumns.{types_length}
-use Rattle.lowered_steps.proofs.Goodness.{arguments_length, take_at_most, done_is}
-use Rattle.lowered_steps.proofs.Places.{all_state_written}
-use Rattle.lowered_imports.specs.Imports.{IsModified, AreGlobalValues, IsImport}
-use Rattle.lowered_imports.specs.KnownPoints.{IsPointOf}
-use Rattle.lowered_imports.proofs.PointLaws.{knows_points}
-use Rattle.lowered_runs.proofs.Forward.{IsOwn, Follows, move_own}
-use Rattle.lowered_runs.proofs.Taken.{all_at}
+use Rattle.lowered_graph.specs.LoweredSteps.ProgramFrames.{frame_at}
+use Rattle.lowered_graph.specs.LoweredSteps.Moves.{HasTypes, FrameIsGood, BelowIsGood, IsGood, Awaits, IsMove}
+use Rattle.lowered_graph.proofs.LoweredSteps.FrameColumns.{types_length}
+use Rattle.lowered_graph.proofs.LoweredSteps.Goodness.{arguments_length, take_at_most, done_is}
+use Rattle.lowered_graph.proofs.LoweredSteps.Places.{all_state_written}
+use Rattle.lowered_graph.specs.LoweredImports.Imports.{IsModified, AreGlobalValues, IsImport}
+use Rattle.lowered_graph.specs.LoweredImports.KnownPoints.{IsPointOf}
+use Rattle.lowered_graph.proofs.LoweredImports.PointLaws.{knows_points}
+use Rattle.lowered_graph.proofs.LoweredRuns.Forward.{IsOwn, Follows, move_own}
+use Rattle.lowered_graph.proofs.LoweredRuns.Taken.{all_at}
 use Rattle.modular_cut.proofs.Called.{named_like, IsCallee, part_program}
 use Rattle.modular_cut.proofs.SamePoints.{settled_part}
 use Rattle.modular_cut.proofs.SameActions.{claims, claim_state, SameStep, check, suppose, demand, write, guess, test, pick, jump, enter, import, leave}

@@ -9,16 +9,16 @@ use Rattle.boogie_tree.specs.declared.tree.Column.TheVariants as columns
 use Rattle.typed_tree.specs.TypedTree.{TypedExpression, TypedGuard, Any, Cond, TypedInvariant, TypedStatement, Assert, Assume, Havoc, Assign, Call, If, While, Break, Goto, Return, Label, TypedBlock, Empty, Then, TypedProcedure, TypedProgram}
 use Rattle.typed_tree.specs.Values.{State, value}
 use Rattle.typed_tree.specs.AffineForm.{is_empty}
-use Rattle.typing_rules.specs.Counts.{assertions, points, block_assertions, block_points, plain_invariants}
-use Rattle.typing_rules.specs.Rules.{Context, all_differ, same_column, is_member, meets, is_writable, are_targets, values_agree, arguments_agree, results_agree, params_of, results_of, is_call, is_statement, is_block}
-use Rattle.boogie_points.specs.Points.{Todo, Stage, Start, Entry, Body, Exit, Point, at_exit, settled, past, broken}
-use Rattle.boogie_points.specs.Actions as actions
-use Rattle.boogie_points.specs.Actions.{Action, next_part, guarded, checked, plain_conditions, free_conditions, ensured_conditions, chosen_columns, unseen_action, called_action, call_action, call_if_any, head_action, havoc_action, one_of, ways_to, statement_action, block_action, body_action, entry_point, first_point, entry_action, exit_action, start_conditions, start_action, first_assertion, first_place, stage_action, body_or_leave, procedure_action, action_at}
-use Rattle.boogie_points.specs.Starts.{targets_at}
+use Rattle.typed_tree.specs.TypingRules.Counts.{assertions, points, block_assertions, block_points, plain_invariants}
+use Rattle.typed_tree.specs.TypingRules.Rules.{Context, all_differ, same_column, is_member, meets, is_writable, are_targets, values_agree, arguments_agree, results_agree, params_of, results_of, is_call, is_statement, is_block}
+use Rattle.boogie_run.specs.BoogiePoints.Points.{Todo, Stage, Start, Entry, Body, Exit, Point, at_exit, settled, past, broken}
+use Rattle.boogie_run.specs.BoogiePoints.Actions as actions
+use Rattle.boogie_run.specs.BoogiePoints.Actions.{Action, next_part, guarded, checked, plain_conditions, free_conditions, ensured_conditions, chosen_columns, unseen_action, called_action, call_action, call_if_any, head_action, havoc_action, one_of, ways_to, statement_action, block_action, body_action, entry_point, first_point, entry_action, exit_action, start_conditions, start_action, first_assertion, first_place, stage_action, body_or_leave, procedure_action, action_at}
+use Rattle.boogie_run.specs.BoogiePoints.Starts.{targets_at}
 use Rattle.boogie_run.specs.Steps.{passed_state}
 use Rattle.boogie_run.proofs.TypedPoints.{IsKept}
-use Rattle.lowered_imports.proofs.RightPoints.{FirstRight, StageRight, PointRight}
-use Rattle.lowered_runs.proofs.Taken.{all_at}
+use Rattle.lowered_graph.proofs.LoweredImports.RightPoints.{FirstRight, StageRight, PointRight}
+use Rattle.lowered_graph.proofs.LoweredRuns.Taken.{all_at}
 use Rattle.modular_cut.specs.Parts.{recalled, recalled_block, own_procedure}
 use Rattle.modular_cut.proofs.Called.{named_like, IsCallee, Renumbers, part_program}
 use Rattle.modular_cut.proofs.SamePoints.{SameTodos, SamePoint, SamePoints, exits_same, same_at, first_same, settled_same, settled_first, broken_same, ways_same, settled_part, AreAtStart, ways_start}

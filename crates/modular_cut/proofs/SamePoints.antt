@@ -2,9 +2,9 @@
 use Rattle.std.proofs.Common.{◌≡◌, ℕ, zero, suc, ◌+◌, Bool, true, false, nat_eq, List, [], ◌∷◌, length, Option, None, Some, refl, sym, subst, if◌then◌else◌}
 use Rattle.std.specs.Option.{option_or}
 use Rattle.typed_tree.specs.TypedTree.{TypedStatement, Assert, Assume, Havoc, Assign, Call, If, While, Break, Goto, Return, Label, TypedBlock, Empty, Then, TypedProcedure}
-use Rattle.typing_rules.specs.Counts.{assertions, points, block_assertions, block_points, plain_invariants}
-use Rattle.boogie_points.specs.Points.{Todo, Stage, Body, Point, at_exit, unless_ended, settled, past, past_block, past_first, broken, found_in, found_block}
-use Rattle.boogie_points.specs.Actions.{point_behind, ways_to}
+use Rattle.typed_tree.specs.TypingRules.Counts.{assertions, points, block_assertions, block_points, plain_invariants}
+use Rattle.boogie_run.specs.BoogiePoints.Points.{Todo, Stage, Body, Point, at_exit, unless_ended, settled, past, past_block, past_first, broken, found_in, found_block}
+use Rattle.boogie_run.specs.BoogiePoints.Actions.{point_behind, ways_to}
 use Rattle.modular_cut.specs.Parts.{recalled, recalled_block}
 
 -- the block still to do is the same, with its calls renumbered

@@ -12,10 +12,10 @@ use Rattle.boogie_tree.specs.Names.{is_name, is_spelled, are_digits}
 use Rattle.boogie_tree.specs.declared.tree.VarInfo.{VarInfo}
 use Rattle.typed_tree.specs.TypedTree.{TypedBlock, TypedProcedure, TypedProgram}
 use Rattle.typed_tree.specs.Scope.{axiom_scope, body_scope}
-use Rattle.typing_rules.specs.Rules.{all_differ, meets, is_condition, is_body_if_any, is_specification, context_of, procedure_keeps_rules, keeps_typing, own_labels, is_block}
-use Rattle.typing_rules.specs.Shape.{counts_from, block_labels, is_shaped_block, is_body_shaped, are_modified, are_names, are_locals, is_procedure_shaped, has_shape}
-use Rattle.typing_rules.specs.ValidProgram.{has_body, has_entry, is_typed}
-use Rattle.typing_rules.proofs.Differ.{all_differ_push}
+use Rattle.typed_tree.specs.TypingRules.Rules.{all_differ, meets, is_condition, is_body_if_any, is_specification, context_of, procedure_keeps_rules, keeps_typing, own_labels, is_block}
+use Rattle.typed_tree.specs.TypingRules.Shape.{counts_from, block_labels, is_shaped_block, is_body_shaped, are_modified, are_names, are_locals, is_procedure_shaped, has_shape}
+use Rattle.typed_tree.specs.TypingRules.ValidProgram.{has_body, has_entry, is_typed}
+use Rattle.typed_tree.proofs.TypingRules.Differ.{all_differ_push}
 use Rattle.modular_cut.specs.Parts.{recalled_block, without_body, copy_of, own_procedure, cut_procs, procedure_part}
 use Rattle.modular_cut.specs.Laws.{PartsAreTyped}
 use Rattle.modular_cut.proofs.Called.{Renumbers, calls, part_procs, procs_are, own_is, renumbered, cut_all, cut_names}

@@ -5,8 +5,8 @@ use Rattle.std.proofs.lemmas.Bool.{and_parts, and_from, false≢true}
 use Rattle.boogie_tree.specs.declared.tree.Column.{Column}
 use Rattle.typed_tree.specs.TypedTree.{TypedExpression, TypedStatement, Assert, Assume, Havoc, Assign, Call, If, While, Break, Goto, Return, Label, TypedBlock, Empty, Then, TypedProcedure}
 use Rattle.typed_tree.specs.Scope.{Scope}
-use Rattle.typing_rules.specs.Rules.{Context, meets, is_guard, is_invariant, are_targets, is_call, own_labels, is_statement, is_block}
-use Rattle.typing_rules.specs.Shape.{params_if_any, are_arguments, is_shaped, is_shaped_block, statement_labels, block_labels}
+use Rattle.typed_tree.specs.TypingRules.Rules.{Context, meets, is_guard, is_invariant, are_targets, is_call, own_labels, is_statement, is_block}
+use Rattle.typed_tree.specs.TypingRules.Shape.{params_if_any, are_arguments, is_shaped, is_shaped_block, statement_labels, block_labels}
 use Rattle.modular_cut.specs.Parts.{recalled, recalled_block}
 use Rattle.modular_cut.proofs.Called.{IsCallee, Renumbers}
 

@@ -4,28 +4,28 @@ use Rattle.std.specs.List.{AllByRecursion}
 use Rattle.math_facts.specs.Optional.{or_zero}
 use Rattle.typed_tree.specs.TypedTree.{TypedExpression, TypedBlock, TypedProcedure, TypedProgram}
 use Rattle.typed_tree.specs.Values.{State, value}
-use Rattle.typing_rules.specs.ValidProgram.{is_valid}
-use Rattle.typing_rules.proofs.ValidLaws as valid_laws
-use Rattle.boogie_points.specs.Points.{Start, Point}
-use Rattle.boogie_points.specs.Actions as actions
-use Rattle.boogie_points.specs.Actions.{Action, next_part, unseen_action, plain_conditions, start_conditions, start_action, first_point, first_assertion, first_place, stage_action, body_or_leave, procedure_action, action_at}
-use Rattle.boogie_points.specs.Starts.{point_of_procedure, unless_none, start_point_of}
+use Rattle.typed_tree.specs.TypingRules.ValidProgram.{is_valid}
+use Rattle.typed_tree.proofs.TypingRules.ValidLaws as valid_laws
+use Rattle.boogie_run.specs.BoogiePoints.Points.{Start, Point}
+use Rattle.boogie_run.specs.BoogiePoints.Actions as actions
+use Rattle.boogie_run.specs.BoogiePoints.Actions.{Action, next_part, unseen_action, plain_conditions, start_conditions, start_action, first_point, first_assertion, first_place, stage_action, body_or_leave, procedure_action, action_at}
+use Rattle.boogie_run.specs.BoogiePoints.Starts.{point_of_procedure, unless_none, start_point_of}
 use Rattle.boogie_run.specs.Configurations.{Config, state_of}
 use Rattle.boogie_run.specs.Needs.{locals_at}
 use Rattle.boogie_run.specs.Runs.{IsSafe}
 use Rattle.boogie_run.specs.Steps.{Went, Blocked, Failed, is_true, moved_to, act}
-use Rattle.lowered_steps.specs.Moves.{HasTypes, IsGood, IsMove, IsNoImport, KnowsPoints}
-use Rattle.lowered_steps.proofs.Goodness.{done_is}
-use Rattle.lowered_imports.specs.Imports.{IsImport}
-use Rattle.lowered_imports.specs.KnownPoints.{IsPointOf}
-use Rattle.lowered_imports.proofs.PointLaws.{knows_points}
-use Rattle.lowered_runs.proofs.Breaks.{Breaks}
-use Rattle.lowered_runs.proofs.Filling.{none_so_far, begun, Begun, begun_by, Filled, filled_by}
-use Rattle.lowered_runs.proofs.Forward.{IsOwn, Follows, own_or_call, forward}
-use Rattle.lowered_runs.proofs.Machine.{first}
-use Rattle.lowered_runs.proofs.MachineLaws.{imports_are_steps}
-use Rattle.lowered_runs.proofs.MovesOfRuns.{run_breaks}
-use Rattle.lowered_runs.proofs.Taken.{went_if_true}
+use Rattle.lowered_graph.specs.LoweredSteps.Moves.{HasTypes, IsGood, IsMove, IsNoImport, KnowsPoints}
+use Rattle.lowered_graph.proofs.LoweredSteps.Goodness.{done_is}
+use Rattle.lowered_graph.specs.LoweredImports.Imports.{IsImport}
+use Rattle.lowered_graph.specs.LoweredImports.KnownPoints.{IsPointOf}
+use Rattle.lowered_graph.proofs.LoweredImports.PointLaws.{knows_points}
+use Rattle.lowered_graph.proofs.LoweredRuns.Breaks.{Breaks}
+use Rattle.lowered_graph.proofs.LoweredRuns.Filling.{none_so_far, begun, Begun, begun_by, Filled, filled_by}
+use Rattle.lowered_graph.proofs.LoweredRuns.Forward.{IsOwn, Follows, own_or_call, forward}
+use Rattle.lowered_graph.proofs.LoweredRuns.Machine.{first}
+use Rattle.lowered_graph.proofs.LoweredRuns.MachineLaws.{imports_are_steps}
+use Rattle.lowered_graph.proofs.LoweredRuns.MovesOfRuns.{run_breaks}
+use Rattle.lowered_graph.proofs.LoweredRuns.Taken.{went_if_true}
 use Rattle.modular_cut.specs.Laws.{PartsSuffice}
 use Rattle.modular_cut.proofs.Called.{part_program}
 use Rattle.modular_cut.proofs.Fine.{none_held}

@@ -3,7 +3,7 @@ use Rattle.std.specs.Prelude.{◌≡◌, ℕ, IsTrue, true, Some, slice_get}
 use Rattle.std.specs.List.{list_all}
 use Rattle.boogie_tree.specs.Names.{is_name}
 use Rattle.typed_tree.specs.TypedTree.{TypedBlock, TypedProcedure, TypedProgram}
-use Rattle.typing_rules.specs.ValidProgram.{is_typed, is_valid}
+use Rattle.typed_tree.specs.TypingRules.ValidProgram.{is_typed, is_valid}
 use Rattle.boogie_run.specs.Runs.{IsSafe}
 use Rattle.modular_cut.specs.Parts.{procedure_part}
 

@@ -1,5 +1,5 @@
 pub mod Parts
 pub mod FreeConditions
-pub mod Earliest
 pub mod View
 pub mod Laws
+pub mod Ties

@@ -1,7 +1,7 @@
 -- Parts of the code as contracts see them.
 use Rattle.std.specs.Prelude.{IsTrue}
-use Rattle.typing_rules.specs.TypedParts.{typed_program}
-use Rattle.typing_rules.specs.ValidProgram.{is_valid}
+use Rattle.typed_tree.specs.TypingRules.TypedParts.{typed_program}
+use Rattle.typed_tree.specs.TypingRules.ValidProgram.{is_valid}
 use Rattle.modular_cut.specs.declared.cutting.Part.{Part}
 use Rattle.modular_cut.specs.Parts.{PlainPart}
 

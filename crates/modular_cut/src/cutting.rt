@@ -5,9 +5,9 @@ ghost use Rattle.std.specs.List.{list_all, AllByRecursion};
 ghost use Rattle.boogie_tree.specs.declared.span.Span as span;
 ghost use Rattle.boogie_tree.specs.Names.{is_name};
 ghost use Rattle.typed_tree.specs.TypedView as view;
-ghost use Rattle.typing_rules.specs.Rules.{meets};
-ghost use Rattle.typing_rules.specs.TypedParts.{typed_program};
-ghost use Rattle.typing_rules.specs.ValidProgram.{has_body, is_typed, is_valid};
+ghost use Rattle.typed_tree.specs.TypingRules.Rules.{meets};
+ghost use Rattle.typed_tree.specs.TypingRules.TypedParts.{typed_program};
+ghost use Rattle.typed_tree.specs.TypingRules.ValidProgram.{has_body, is_typed, is_valid};
 ghost use Rattle.boogie_run.specs.Runs.{IsSafe};
 ghost use Rattle.modular_cut.specs.Parts as spec;
 ghost use Rattle.modular_cut.specs.FreeConditions.{free_spans, IsFirstFree};
@@ -19,8 +19,8 @@ use crate::procedures::cut_procedures;
 use boogie_tree::{Span, Text, VarInfo};
 use std::alloc::{AllocError, AllocFailed, Global};
 use thiserror::Error;
+use typed_tree::typing_rules::{Typed, numbers_fit};
 use typed_tree::{TExpr, TProc};
-use typing_rules::{Typed, numbers_fit};
 
 /// A procedure with a body, and the program in which its body begins the run and each call is taken by the specification of what it calls.
 #[derive(Drop)]

@@ -2,13 +2,13 @@
 
 ghost use Rattle.std.specs.Prelude.{◌≡◌, map, flat_map, None};
 ghost use Rattle.typed_tree.specs.TypedView as view;
-ghost use Rattle.typing_rules.specs.TypedParts.{typed_program};
-ghost use Rattle.modular_cut.specs.Earliest as spec;
+ghost use Rattle.typed_tree.specs.TypingRules.TypedParts.{typed_program};
+ghost use Rattle.modular_cut.specs.Ties.Earliest as spec;
 ghost use Rattle.modular_cut.specs.FreeConditions as told;
 
 use boogie_tree::Span;
+use typed_tree::typing_rules::Typed;
 use typed_tree::{TInv, TProc, TSpec, TStmt};
-use typing_rules::Typed;
 
 /// The one that was found so far, unless the other stands before it.
 fn earlier(found: Option<Span>, other: Span) -> Option<Span>

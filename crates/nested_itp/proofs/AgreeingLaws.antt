@@ -14,7 +14,7 @@ use Rattle.letter_acts.specs.Invariant.{Graph, IsGraph, alphabet_of, IsPlaceOf}
 use Rattle.letter_acts.specs.Kept.{Keeps}
 use Rattle.letter_acts.proofs.KnownLemmas.{frames_laid_out}
 use Rattle.path_rows.specs.Versions.{PathStage, Part, part_of, act_part, return_part, back_part, rowless_part, returned, local_columns}
-use Rattle.frame_rows.specs.Rows.{columns_from}
+use Rattle.letter_acts.specs.FrameRows.Rows.{columns_from}
 use Rattle.path_rows.specs.Paths.{start_frame, first_stage}
 use Rattle.path_rows.proofs.ListLemmas.{length-columns_from}
 use Rattle.path_rows.proofs.LayoutLemmas.{laid_out}
@@ -27,10 +27,10 @@ use Rattle.triple_rows.specs.declared.triples.Triple.{Triple}
 use Rattle.triple_rows.specs.Predicates.{Formula, IsOver}
 use Rattle.triple_rows.specs.Triples.{IsScoped, InsideAgrees, CallAgrees, ReturnAgrees, BackAgrees, Agrees}
 use Rattle.triple_rows.proofs.FormulaLaws.{prefix_read}
-use Rattle.nested_predicates.specs.Positions.{CallScope, has_return, callee_scope, scopes_after, Position, position_at, positions_along, start_scope}
-use Rattle.nested_predicates.specs.Joins.{predicate_at}
-use Rattle.nested_predicates.specs.Interpolants.{interpolant_at, prefix_predicates, letter_triple, saved_after, triples_along}
-use Rattle.nested_predicates.proofs.SpellingLaws.{predicate_over}
+use Rattle.nested_itp.specs.NestedPredicates.Positions.{CallScope, has_return, callee_scope, scopes_after, Position, position_at, positions_along, start_scope}
+use Rattle.nested_itp.specs.NestedPredicates.Joins.{predicate_at}
+use Rattle.nested_itp.specs.NestedPredicates.Interpolants.{interpolant_at, prefix_predicates, letter_triple, saved_after, triples_along}
+use Rattle.nested_itp.proofs.NestedPredicates.SpellingLaws.{predicate_over}
 
 same_proc : (procs : List ℕ) (q a b : ℕ) → IsPlaceOf procs a q → IsPlaceOf procs b q → a ≡ b
 same_proc procs q a b x y = let e : Some a ≡ Some b = sym x ∙ y in cc

@@ -9,15 +9,15 @@ use Rattle.lin_rows.specs.Rows.{LinearRow}
 use Rattle.nwa_base.specs.declared.letters.Letter.{Letter}
 use Rattle.letter_acts.specs.Invariant.{Graph}
 use Rattle.path_rows.specs.Paths.{path_of}
-use Rattle.nested_predicates.specs.Stamps.{stamps_of}
-use Rattle.nested_predicates.specs.Interpolants.{RefutesRows}
-use Rattle.nested_refutations.specs.Numbers.{AreCutsAt}
+use Rattle.nested_itp.specs.NestedPredicates.Stamps.{stamps_of}
+use Rattle.nested_itp.specs.NestedPredicates.Interpolants.{RefutesRows}
+use Rattle.nested_itp.specs.NestedRefutations.Numbers.{AreCutsAt}
 use Rattle.triple_rows.specs.Cuts.{IsCutWithin}
-use Rattle.triple_steps.specs.declared.columns.Columns.{Columns}
-use Rattle.triple_steps.specs.Steps.{FitColumns}
-use Rattle.triple_walks.specs.Spots.{HasNoCases}
-use Rattle.triple_walks.specs.Putting.{IsPlaced}
-use Rattle.triple_walks.proofs.TableLaws.{refutation_uncased}
+use Rattle.nested_itp.specs.declared.triple_steps.columns.Columns.{Columns}
+use Rattle.nested_itp.specs.TripleSteps.Steps.{FitColumns}
+use Rattle.nested_itp.specs.TripleWalks.Spots.{HasNoCases}
+use Rattle.nested_itp.specs.TripleWalks.Putting.{IsPlaced}
+use Rattle.nested_itp.proofs.TripleWalks.TableLaws.{refutation_uncased}
 
 -- ---- lists of nodes
 

@@ -3,3 +3,7 @@ pub mod CountLaws
 pub mod CutLaws
 pub mod PastLaws
 pub mod TripleLaws
+pub mod NestedPredicates
+pub mod NestedRefutations
+pub mod TripleSteps
+pub mod TripleWalks

@@ -15,31 +15,31 @@ use Rattle.nwa_base.specs.Acceptance.{Accepts}
 use Rattle.letter_acts.specs.Frames.{Columns}
 use Rattle.letter_acts.specs.Acts.{Alphabet}
 use Rattle.letter_acts.specs.Invariant.{Graph, IsGraph, alphabet_of}
-use Rattle.frame_rows.specs.Rows.{bounds, types_of}
+use Rattle.letter_acts.specs.FrameRows.Rows.{bounds, types_of}
 use Rattle.path_rows.specs.Versions.{PathStage, part_rows, part_of}
 use Rattle.path_rows.specs.Paths.{Path, repeated, start_frame, first_stage, path_along, path_of}
 use Rattle.triple_rows.specs.declared.triples.Triple.{Triple}
 use Rattle.triple_rows.specs.Triples.{Agrees, IsUnrefuted}
 use Rattle.hoare_check.specs.Decided.{AreCutsWithin}
-use Rattle.nested_predicates.specs.Stamps.{stamps_of}
-use Rattle.nested_predicates.specs.Positions.{positions_of}
-use Rattle.nested_predicates.specs.Sums.{root_of}
-use Rattle.nested_predicates.specs.Interpolants.{RefutesRows}
-use Rattle.nested_refutations.specs.Numbers.{Step, StepNumbersFit, steps_of, AreCutsAt}
-use Rattle.nested_refutations.specs.Walked.{WalkedRefutes}
-use Rattle.nested_refutations.specs.Cuts.{WalkedCuts}
+use Rattle.nested_itp.specs.NestedPredicates.Stamps.{stamps_of}
+use Rattle.nested_itp.specs.NestedPredicates.Positions.{positions_of}
+use Rattle.nested_itp.specs.NestedPredicates.Sums.{root_of}
+use Rattle.nested_itp.specs.NestedPredicates.Interpolants.{RefutesRows}
+use Rattle.nested_itp.specs.NestedRefutations.Numbers.{Step, StepNumbersFit, steps_of, AreCutsAt}
+use Rattle.nested_itp.specs.NestedRefutations.Walked.{WalkedRefutes}
+use Rattle.nested_itp.specs.NestedRefutations.Ties.Cuts.{WalkedCuts}
 use Rattle.triple_rows.specs.Cuts.{IsCutWithin}
-use Rattle.nested_refutations.specs.Waiting.{StepWaits}
-use Rattle.nested_refutations.proofs.InsideColumnLaws.{length-repeated}
-use Rattle.nested_refutations.proofs.StepLaws.{steps_wait}
-use Rattle.nested_refutations.proofs.TripleLaws.{steps_walked}
-use Rattle.nested_refutations.proofs.WalkedCutLaws.{steps_cut}
-use Rattle.triple_steps.specs.declared.making.Step as found
-use Rattle.triple_steps.specs.Steps.{IsStep, AreSteps}
-use Rattle.triple_walks.specs.declared.trees.Tree as code
-use Rattle.triple_walks.specs.Spots.{IsTree}
-use Rattle.triple_walks.specs.Putting.{IsPutFor}
-use Rattle.nested_itp.specs.Proofs.{AreTriplesOf, IsNoProof}
+use Rattle.nested_itp.specs.NestedRefutations.Waiting.{StepWaits}
+use Rattle.nested_itp.proofs.NestedRefutations.InsideColumnLaws.{length-repeated}
+use Rattle.nested_itp.proofs.NestedRefutations.StepLaws.{steps_wait}
+use Rattle.nested_itp.proofs.NestedRefutations.TripleLaws.{steps_walked}
+use Rattle.nested_itp.proofs.NestedRefutations.WalkedCutLaws.{steps_cut}
+use Rattle.nested_itp.specs.declared.triple_steps.making.Step as found
+use Rattle.nested_itp.specs.TripleSteps.Steps.{IsStep, AreSteps}
+use Rattle.nested_itp.specs.declared.triple_walks.trees.Tree as code
+use Rattle.nested_itp.specs.TripleWalks.Spots.{IsTree}
+use Rattle.nested_itp.specs.TripleWalks.Putting.{IsPutFor}
+use Rattle.nested_itp.specs.Ties.Proofs.{AreTriplesOf, IsNoProof}
 use Rattle.nested_itp.proofs.AgreeingLaws.{triples_agree}
 use Rattle.nested_itp.proofs.CutLaws.{tree_cuts}
 use Rattle.nested_itp.proofs.TripleLaws.{triples_in, steps_triples}

@@ -12,10 +12,10 @@ use Rattle.path_rows.proofs.EdgeLemmas.{BackEdge, inside_acts, call_acts, back_a
 use Rattle.farkas_check.specs.Trees.{Tree}
 use Rattle.triple_rows.specs.declared.triples.Scoped.{Scoped}
 use Rattle.triple_rows.specs.declared.triples.Triple.{Triple}
-use Rattle.nested_predicates.specs.Positions.{CallScope, Position, position_at, positions_along}
-use Rattle.nested_predicates.specs.Interpolants.{interpolant_at, prefix_predicates, return_triple, letter_triple, left, saved_after, triples_along}
-use Rattle.nested_refutations.specs.Numbers.{OpenCall, Step, Reading, position_here, open_after, read_on, steps_back, step_by, steps_along, steps_of}
-use Rattle.nested_refutations.proofs.AlongLaws.{first_reading}
+use Rattle.nested_itp.specs.NestedPredicates.Positions.{CallScope, Position, position_at, positions_along}
+use Rattle.nested_itp.specs.NestedPredicates.Interpolants.{interpolant_at, prefix_predicates, return_triple, letter_triple, left, saved_after, triples_along}
+use Rattle.nested_itp.specs.NestedRefutations.Numbers.{OpenCall, Step, Reading, position_here, open_after, read_on, steps_back, step_by, steps_along, steps_of}
+use Rattle.nested_itp.proofs.NestedRefutations.AlongLaws.{first_reading}
 
 -- the triples of steps
 abbrev pub triples_in : List Step → List Triple

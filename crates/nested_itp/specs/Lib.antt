@@ -1,1 +1,5 @@
-pub mod Proofs
+pub mod NestedPredicates
+pub mod NestedRefutations
+pub mod TripleSteps
+pub mod TripleWalks
+pub mod Ties

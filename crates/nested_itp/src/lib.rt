@@ -3,8 +3,12 @@
 #![tactic(auto)]
 
 mod making;
+pub mod nested_predicates;
+pub mod nested_refutations;
 mod proved;
+pub mod triple_steps;
+pub mod triple_walks;
 
+pub use crate::nested_predicates::ItpFault;
 pub use making::interpolants;
-pub use nested_predicates::ItpFault;
 pub use proved::Interpolants;

@@ -6,28 +6,28 @@ ghost use Rattle.farkas_check.specs.Nodes.{plain, plain_nodes, is_tree};
 ghost use Rattle.farkas_check.specs.Trees as trees;
 ghost use Rattle.letter_acts.specs.Invariant.{alphabet_of};
 ghost use Rattle.path_rows.specs.Paths.{IsPathOf};
-ghost use Rattle.nested_predicates.specs.Stamps.{stamps_of};
-ghost use Rattle.nested_predicates.specs.Positions.{positions_of};
-ghost use Rattle.nested_predicates.specs.Sums.{root_of};
-ghost use Rattle.nested_predicates.specs.Interpolants.{AreInterpolants, RefutesRows, HasCutsUpTo, BeginsTrue, EndsFalse};
-ghost use Rattle.nested_refutations.specs.Numbers.{NumbersFit, StepNumbersFit, steps_of};
+ghost use Rattle.nested_itp.specs.NestedPredicates.Stamps.{stamps_of};
+ghost use Rattle.nested_itp.specs.NestedPredicates.Positions.{positions_of};
+ghost use Rattle.nested_itp.specs.NestedPredicates.Sums.{root_of};
+ghost use Rattle.nested_itp.specs.NestedPredicates.Interpolants.{AreInterpolants, RefutesRows, HasCutsUpTo, BeginsTrue, EndsFalse};
+ghost use Rattle.nested_itp.specs.NestedRefutations.Numbers.{NumbersFit, StepNumbersFit, steps_of};
 ghost use Rattle.triple_rows.specs.Cuts.{IsCutWithin};
 ghost use Rattle.triple_rows.specs.Triples.{Agrees};
-ghost use Rattle.triple_steps.specs.Steps.{FitColumns, AreSteps};
-ghost use Rattle.triple_walks.specs.Spots.{IsTree};
+ghost use Rattle.nested_itp.specs.TripleSteps.Steps.{FitColumns, AreSteps};
+ghost use Rattle.nested_itp.specs.TripleWalks.Spots.{IsTree};
 ghost use Rattle.hoare_check.specs.Decided.{IsProofFor};
-ghost use Rattle.nested_itp.specs.Proofs.{AreTriplesOf, AreProofsOf, IsNoProof};
+ghost use Rattle.nested_itp.specs.Ties.Proofs.{AreTriplesOf, AreProofsOf, IsNoProof};
 
+use crate::nested_predicates::{ItpFault, prefix_sums, triples_of};
 use crate::proved::Interpolants;
+use crate::triple_steps::{Step, steps};
+use crate::triple_walks::{Tree, refutation};
 use farkas_check::{Node, Refutation, tree};
 use hoare_check::are_cuts_within;
 use letter_acts::Icfg;
-use nested_predicates::{ItpFault, prefix_sums, triples_of};
 use path_rows::PathSystem;
 use std::alloc::Global;
 use triple_rows::{Proof, Triple, proof};
-use triple_steps::{Step, steps};
-use triple_walks::{Tree, refutation};
 
 /// The prefix predicates of a word under a refutation of its rows, no branch of which has more than 64 cuts, with a proved
 /// triple for each letter. `Past` only where a cut is at no column of the word, or a number of the definition does not fit: of the

@@ -11,7 +11,7 @@ pub struct Interpolants {
 }
 
 impl Model for Interpolants {
-    ghost use Rattle.nested_predicates.specs.Interpolants.{PlainInterpolants};
+    ghost use Rattle.nested_itp.specs.NestedPredicates.Interpolants.{PlainInterpolants};
 
     ghost Value = { PlainInterpolants };
 

@@ -13,8 +13,8 @@ use crate::showing::{
 use farkas_check::Refutation;
 use fm_elim::{Elim, ElimFault, eliminate};
 use int_decide::{Answer, DecideFault, decide, measure, plain};
-use late_refutations::late;
 use lin_rows::{Row, System};
+use path_decide::late_refutations::late;
 use simplex_rows::{Found, try_solve};
 
 /// Shows the answer about the rows of a system.

@@ -1,7 +1,7 @@
 -- Loops that add, for one pair after another, what it leads to.
 use Rattle.std.proofs.Common.{◌≡◌, ◌∙◌, ◌<◌, ◌≤◌, ◌+◌, ℕ, Bool, true, false, cond, eqb, List, [], ◌∷◌, ◌++◌, length, take, drop, get_or, refl, sym, ap, append_assoc}
 use Rattle.std.proofs.lemmas.List.{append-nil, drop_more, drop_all, take_more, take_all}
-use Rattle.nwa_base.specs.Reading.{keyed, expanded, seconds}
+use Rattle.nwa_base.specs.Ties.Reading.{keyed, expanded, seconds}
 
 -- nothing was added yet, and all pairs are left
 pub expanded_none : (key : ℕ × ℕ → ℕ) (to : ℕ × ℕ → List ℕ) (s old : List (ℕ × ℕ)) → old ≡ [] → old ++ expanded key to s ≡ expanded key to s

@@ -9,7 +9,7 @@ use Rattle.nwa_base.specs.Members.{Member, SameMembers}
 use Rattle.nwa_base.specs.Edges.{ends, back_ends}
 use Rattle.nwa_base.specs.Automata.{Automaton}
 use Rattle.nwa_base.specs.Pairs.{IsInsideOf, IsCallOf, IsBackOf}
-use Rattle.nwa_base.specs.Reading.{keyed, expanded, seconds}
+use Rattle.nwa_base.specs.Ties.Reading.{keyed, expanded, seconds}
 use Rattle.nwa_base.proofs.LetterLemmas.{same_letter-true, same_letter-refl, and_left, and_right, and_both, eqb-refl}
 use Rattle.nwa_base.proofs.MemberLemmas.{member_front, member_rest, member_split, member_map, member_from_map, member_filter, filter_member}
 

@@ -12,7 +12,7 @@ use Rattle.nwa_base.specs.Members.{Member}
 use Rattle.nwa_base.specs.Automata.{Automaton}
 use Rattle.nwa_base.specs.Acceptance.{Accepts}
 use Rattle.nwa_base.specs.Pairs.{SomeAccepts, IsSupported, HasFinal, LettersOn}
-use Rattle.nwa_base.specs.Reading.{sets_of, IsStep}
+use Rattle.nwa_base.specs.Ties.Reading.{sets_of, IsStep}
 use Rattle.nwa_base.proofs.MemberLemmas.{member_at}
 use Rattle.nwa_base.proofs.Steps.{inside_on, call_on, back_on, at_start, at_end}
 use Rattle.nwa_base.proofs.RunLemmas.{accepted_by_run}

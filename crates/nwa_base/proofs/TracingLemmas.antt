@@ -12,8 +12,8 @@ use Rattle.nwa_base.specs.Members.{Member}
 use Rattle.nwa_base.specs.Automata.{Automaton}
 use Rattle.nwa_base.specs.Acceptance.{Follows}
 use Rattle.nwa_base.specs.Runs.{EndsFinal, IsAcceptingRun}
-use Rattle.nwa_base.specs.Reading.{sets_of, IsStep}
-use Rattle.nwa_base.specs.Tracing.{first_sets, IsPast, IsRead, Chained, required, CanStepBack, StepsBack, CallsBack, GoesOut}
+use Rattle.nwa_base.specs.Ties.Reading.{sets_of, IsStep}
+use Rattle.nwa_base.specs.Ties.Tracing.{first_sets, IsPast, IsRead, Chained, required, CanStepBack, StepsBack, CallsBack, GoesOut}
 use Rattle.nwa_base.proofs.RunLemmas.{RunOn, follows_with, accepting_run}
 use Rattle.nwa_base.proofs.ReadingLemmas.{IsReading, reading_start, reading_goes, reading_ends}
 

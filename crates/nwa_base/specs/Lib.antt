@@ -8,5 +8,4 @@ pub mod Edges
 pub mod Acceptance
 pub mod Runs
 pub mod Pairs
-pub mod Reading
-pub mod Tracing
+pub mod Ties

@@ -6,7 +6,7 @@ ghost use Rattle.nwa_base.specs.Groups.{grouped};
 ghost use Rattle.nwa_base.specs.Members.{Member, SameMembers};
 ghost use Rattle.nwa_base.specs.Edges.{ends, back_ends};
 ghost use Rattle.nwa_base.specs.Pairs.{IsInsideOf, IsCallOf, IsBackOf};
-ghost use Rattle.nwa_base.specs.Reading.{keyed, expanded, seconds};
+ghost use Rattle.nwa_base.specs.Ties.Reading.{keyed, expanded, seconds};
 
 use crate::automata::Nwa;
 use crate::groups::Groups;

@@ -6,7 +6,7 @@ ghost use Rattle.nwa_base.specs.Members.{Member};
 ghost use Rattle.nwa_base.specs.Acceptance.{Accepts};
 ghost use Rattle.nwa_base.specs.Runs.{IsAcceptingRun};
 ghost use Rattle.nwa_base.specs.Pairs.{SomeAccepts, HasFinal};
-ghost use Rattle.nwa_base.specs.Reading.{sets_of, IsStep};
+ghost use Rattle.nwa_base.specs.Ties.Reading.{sets_of, IsStep};
 
 use crate::automata::Nwa;
 use crate::letters::{Kind, Letter};

@@ -3,9 +3,9 @@
 ghost use Rattle.std.specs.Prelude.{ℕ, List, ◌∷◌, reverse, IfOk, MatchOption};
 ghost use Rattle.nwa_base.specs.Members.{Member};
 ghost use Rattle.nwa_base.specs.Runs.{IsAcceptingRun};
-ghost use Rattle.nwa_base.specs.Reading.{sets_of};
+ghost use Rattle.nwa_base.specs.Ties.Reading.{sets_of};
 ghost use Rattle.nwa_base.specs.Acceptance.{Accepts};
-ghost use Rattle.nwa_base.specs.Tracing.{first_sets, IsPast, IsRead, CanStepBack, StepsBack, CallsBack, GoesOut};
+ghost use Rattle.nwa_base.specs.Ties.Tracing.{first_sets, IsPast, IsRead, CanStepBack, StepsBack, CallsBack, GoesOut};
 
 use crate::automata::Nwa;
 use crate::letters::Letter;

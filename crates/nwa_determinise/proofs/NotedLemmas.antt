@@ -12,7 +12,7 @@ use Rattle.nwa_base.specs.Automata.{Automaton}
 use Rattle.nwa_base.specs.Pairs.{IsInsideOf, IsCallOf, IsBackOf}
 use Rattle.nwa_determinise.specs.Kept.{Kept, set_at, Grows}
 use Rattle.nwa_determinise.specs.Reads.{LeadsTo}
-use Rattle.nwa_determinise.specs.Noted.{AreNoted}
+use Rattle.nwa_determinise.specs.Ties.Noted.{AreNoted}
 use Rattle.nwa_determinise.proofs.KeptLemmas.{leads_stays, number_stays, set_stays}
 
 by_test : (b : Bool) (o : Option ℕ) (v n : ℕ) → cond b (Some v) o ≡ Some n → (o ≡ Some n) ⊎ ((b ≡ true) × (n ≡ v))

@@ -28,7 +28,7 @@ pub struct Det<'a> {
 impl<'a> Model for Det<'a> {
     ghost use Rattle.std.specs.HashMap.{get};
     ghost use Rattle.nwa_determinise.specs.Kept.{Kept, lists_of};
-    ghost use Rattle.nwa_determinise.specs.Noted.{AreNoted};
+    ghost use Rattle.nwa_determinise.specs.Ties.Noted.{AreNoted};
 
     ghost Value = { Kept };
 

@@ -7,7 +7,7 @@ use Rattle.nwa_base.specs.declared.faults.NwaFault.{NwaFault}
 use Rattle.nwa_base.specs.declared.faults.NwaFault.TheVariants as faults
 use Rattle.nwa_base.specs.Members.{Member}
 use Rattle.nwa_base.specs.Automata.{Automaton}
-use Rattle.nwa_difference.specs.Making.{Made, first_at, IsMade, Extends, Nowhere, NoReturn, Only, OnlyReturn, IsInsideEnd, IsCallEnd, IsBackEnd, HasInside, HasCall, HasBack}
+use Rattle.nwa_difference.specs.Ties.Making.{Made, first_at, IsMade, Extends, Nowhere, NoReturn, Only, OnlyReturn, IsInsideEnd, IsCallEnd, IsBackEnd, HasInside, HasCall, HasBack}
 use Rattle.nwa_difference.proofs.MakingLemmas.{at_ok}
 use Rattle.nwa_difference.proofs.GrowingLemmas.{extends_on, extends_more, within_stays, first_stays, is_inside, is_call, is_back, no_fault}
 use Rattle.nwa_difference.proofs.EdgeLemmas.{with_inside, with_call, with_back, inside_added, call_added, back_added}

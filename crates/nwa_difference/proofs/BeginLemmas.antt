@@ -5,7 +5,7 @@ use Rattle.nwa_base.specs.Members.{Member}
 use Rattle.nwa_base.specs.Automata.{Automaton, IsAutomaton}
 use Rattle.nwa_determinise.specs.Kept.{Kept, set_at, Grows}
 use Rattle.nwa_difference.specs.Covering.{HaveCovers}
-use Rattle.nwa_difference.specs.Making.{Made, first_at, number_at, Ends, IsMade}
+use Rattle.nwa_difference.specs.Ties.Making.{Made, first_at, number_at, Ends, IsMade}
 
 -- the automaton of a start alone
 abbrev pub start_alone : Bool → Automaton

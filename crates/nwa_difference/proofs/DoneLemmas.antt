@@ -6,8 +6,8 @@ use Rattle.nwa_base.specs.Members.{Member}
 use Rattle.nwa_base.specs.Automata.{Automaton}
 use Rattle.nwa_base.specs.Acceptance.{Accepts}
 use Rattle.nwa_difference.specs.Product.{IsProduct}
-use Rattle.nwa_difference.specs.Making.{first_at, set_of, NoReturns}
-use Rattle.nwa_difference.specs.Stages.{Stage, IsStage, InsidesFollowed, CallsFollowed, BacksFollowed, Expanded}
+use Rattle.nwa_difference.specs.Ties.Making.{first_at, set_of, NoReturns}
+use Rattle.nwa_difference.specs.Ties.Stages.{Stage, IsStage, InsidesFollowed, CallsFollowed, BacksFollowed, Expanded}
 use Rattle.nwa_difference.proofs.ProductLemmas.{product_exact}
 use Rattle.nwa_difference.proofs.StageLemmas.{pair_stays, state_stays, no_returns_stay, insides_followed_stay, calls_followed_stay, backs_followed_stay, none_followed}
 

@@ -7,7 +7,7 @@ use Rattle.nwa_base.specs.Automata.{Automaton, IsEdge, IsBackEdge}
 use Rattle.nwa_base.specs.Pairs.{IsInsideOf, IsCallOf, IsBackOf}
 use Rattle.nwa_base.proofs.MemberLemmas.{member_front, member_rest, member_split}
 use Rattle.nwa_determinise.proofs.KeptLemmas.{grows_none}
-use Rattle.nwa_difference.specs.Making.{Made, first_at, set_of, IsMade, Extends, Nowhere, NoReturn, Only, OnlyReturn, IsInsideEnd, IsCallEnd, IsBackEnd, HasInside, HasCall, HasBack}
+use Rattle.nwa_difference.specs.Ties.Making.{Made, first_at, set_of, IsMade, Extends, Nowhere, NoReturn, Only, OnlyReturn, IsInsideEnd, IsCallEnd, IsBackEnd, HasInside, HasCall, HasBack}
 use Rattle.nwa_difference.proofs.MakingLemmas.{all_push}
 
 abbrev Edge : Type 0

@@ -5,7 +5,7 @@ use Rattle.nwa_base.specs.Automata.{Automaton}
 use Rattle.nwa_base.specs.Pairs.{IsInsideOf, IsCallOf, IsBackOf}
 use Rattle.nwa_determinise.specs.Kept.{Kept, set_at, Grows}
 use Rattle.nwa_difference.specs.Covering.{HasCover, IsCovered, EndsInCover}
-use Rattle.nwa_difference.specs.Making.{Made, first_at, number_at, set_of, IsMade, Extends, Nowhere, NoReturn, IsInsideEnd, IsCallEnd, IsBackEnd, HasInside, HasCall, HasBack}
+use Rattle.nwa_difference.specs.Ties.Making.{Made, first_at, number_at, set_of, IsMade, Extends, Nowhere, NoReturn, IsInsideEnd, IsCallEnd, IsBackEnd, HasInside, HasCall, HasBack}
 use Rattle.nwa_difference.proofs.CoverLemmas.{cover_covers}
 use Rattle.nwa_difference.proofs.GrowingLemmas.{set_of_stays, extends_on, sets_extend, sets_made}
 

@@ -6,7 +6,7 @@ use Rattle.nwa_base.specs.declared.faults.NwaFault.{NwaFault}
 use Rattle.nwa_base.specs.declared.faults.NwaFault.TheVariants as faults
 use Rattle.nwa_base.specs.Members.{Member}
 use Rattle.nwa_base.specs.Automata.{Automaton, IsAutomaton, IsEdge, IsBackEdge, IsOutside, IsOutsideBack}
-use Rattle.nwa_difference.specs.Making.{Made, Extends, Nowhere, NoReturn, IsInsideEnd, IsCallEnd, IsBackEnd}
+use Rattle.nwa_difference.specs.Ties.Making.{Made, Extends, Nowhere, NoReturn, IsInsideEnd, IsCallEnd, IsBackEnd}
 use Rattle.nwa_difference.proofs.MakingLemmas.{all_member}
 use Rattle.nwa_difference.proofs.GrowingLemmas.{within_stays}
 

@@ -9,7 +9,7 @@ use Rattle.nwa_determinise.specs.Kept.{Kept, set_at, Grows}
 use Rattle.nwa_determinise.proofs.KeptLemmas.{grows_on, set_stays, number_stays}
 use Rattle.nwa_difference.specs.Covering.{HaveCovers}
 use Rattle.nwa_difference.specs.Product.{AreEdges}
-use Rattle.nwa_difference.specs.Making.{Made, first_at, number_at, set_of, Ends, IsMade, Extends, Nowhere, NoReturn}
+use Rattle.nwa_difference.specs.Ties.Making.{Made, first_at, number_at, set_of, Ends, IsMade, Extends, Nowhere, NoReturn}
 use Rattle.nwa_difference.proofs.MakingLemmas.{front_at, are_stay, extends_none}
 
 -- steps one after another

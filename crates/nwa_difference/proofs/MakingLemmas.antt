@@ -12,7 +12,7 @@ use Rattle.nwa_base.proofs.MemberLemmas.{member_front, member_rest, member_split
 use Rattle.nwa_determinise.specs.Kept.{set_at}
 use Rattle.nwa_determinise.proofs.KeptLemmas.{grows_none}
 use Rattle.nwa_difference.specs.Product.{AreEdges}
-use Rattle.nwa_difference.specs.Making.{Made, first_at, number_at, set_of, Ends, IsMade, Extends, Nowhere, NoReturn}
+use Rattle.nwa_difference.specs.Ties.Making.{Made, first_at, number_at, set_of, Ends, IsMade, Extends, Nowhere, NoReturn}
 
 pub front_at : {X : Type 0} (xs ys : List X) (n : ℕ) (d : X) → n < length xs → slice_index_or (xs ++ ys) n d ≡ slice_index_or xs n d
 front_at [] ys n d l = absurd (omega arith)

@@ -8,7 +8,7 @@ use Rattle.nwa_base.specs.Automata.{Automaton, IsEdge, IsBackEdge}
 use Rattle.nwa_base.specs.Edges.{leaving, backs_between, backs_leaving}
 use Rattle.nwa_base.proofs.MemberLemmas.{member_filter, filter_member}
 use Rattle.nwa_difference.specs.Covering.{IsInsideCovered, IsCallCovered, IsBackCovered}
-use Rattle.nwa_difference.specs.Making.{Made, first_at, set_of, IsMade, Extends, HasInside, HasCall, HasBack, HasInsides, HasCalls, HasBacks, NoReturns}
+use Rattle.nwa_difference.specs.Ties.Making.{Made, first_at, set_of, IsMade, Extends, HasInside, HasCall, HasBack, HasInsides, HasCalls, HasBacks, NoReturns}
 use Rattle.nwa_difference.proofs.MakingLemmas.{all_member}
 use Rattle.nwa_difference.proofs.GrowingLemmas.{first_stays, set_of_stays, within_stays}
 use Rattle.nwa_difference.proofs.FollowLemmas.{Each, item_leaving, item_between, each_leaving, each_between}

@@ -7,7 +7,7 @@ use Rattle.indexmap.specs.IndexSet.{insert_key}
 use Rattle.nwa_base.specs.Members.{Member}
 use Rattle.nwa_base.proofs.LetterLemmas.{and_left, and_right, and_both}
 use Rattle.nwa_base.proofs.MemberLemmas.{member_front, member_rest, member_split, member_any, any_member}
-use Rattle.nwa_difference.specs.Stages.{Adds, AddsAt, Tells}
+use Rattle.nwa_difference.specs.Ties.Stages.{Adds, AddsAt, Tells}
 
 -- a test that tells equal ones
 pub record IsTest {X : Type 0} (eq : X → X → Bool) : Type 0 where

@@ -4,8 +4,8 @@ use Rattle.nwa_base.specs.declared.letters.Letter.{Letter}
 use Rattle.nwa_base.specs.Members.{Member}
 use Rattle.nwa_base.specs.Automata.{Automaton}
 use Rattle.nwa_base.proofs.MemberLemmas.{member_front}
-use Rattle.nwa_difference.specs.Making.{Made, first_at, IsMade, Extends, Nowhere, NoReturn, Only, OnlyReturn, HasInsides, HasCalls, HasBacks, NoReturns}
-use Rattle.nwa_difference.specs.Stages.{Found, Stage, IsStage, Goes, Adds, AddsAt, InsidesFollowed, CallsFollowed, IsJoined, BacksFollowed}
+use Rattle.nwa_difference.specs.Ties.Making.{Made, first_at, IsMade, Extends, Nowhere, NoReturn, Only, OnlyReturn, HasInsides, HasCalls, HasBacks, NoReturns}
+use Rattle.nwa_difference.specs.Ties.Stages.{Found, Stage, IsStage, Goes, Adds, AddsAt, InsidesFollowed, CallsFollowed, IsJoined, BacksFollowed}
 use Rattle.nwa_difference.proofs.GrowingLemmas.{extends_on, extends_less, extends_not, within_stays, first_stays}
 use Rattle.nwa_difference.proofs.OpeningLemmas.{insides_stay, calls_stay, backs_stay}
 

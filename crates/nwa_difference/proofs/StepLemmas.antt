@@ -5,8 +5,8 @@ use Rattle.nwa_base.specs.declared.letters.Letter.{Letter}
 use Rattle.nwa_base.specs.Members.{Member}
 use Rattle.nwa_base.specs.Automata.{IsEdge, IsBackEdge}
 use Rattle.nwa_base.specs.Edges.{leaving, entering, backs_between}
-use Rattle.nwa_difference.specs.Making.{NoReturns}
-use Rattle.nwa_difference.specs.Stages.{Found, Stage, IsStage, Goes, InsidesFollowed, CallsFollowed, BacksFollowed, ExitsFollowed, CallersFollowed, CallDone, CallsDone, ReturnsDone, ExitDone, WasBefore, Expanded}
+use Rattle.nwa_difference.specs.Ties.Making.{NoReturns}
+use Rattle.nwa_difference.specs.Ties.Stages.{Found, Stage, IsStage, Goes, InsidesFollowed, CallsFollowed, BacksFollowed, ExitsFollowed, CallersFollowed, CallDone, CallsDone, ReturnsDone, ExitDone, WasBefore, Expanded}
 use Rattle.nwa_difference.proofs.MakingLemmas.{all_member}
 use Rattle.nwa_difference.proofs.FollowLemmas.{Each, Followed, followed_none, followed_more, each_leaving, each_entering, each_between}
 use Rattle.nwa_difference.proofs.StageLemmas.{goes_none, goes_on, pair_stays, insides_followed_stay, calls_followed_stay, backs_followed_stay}

@@ -1,5 +1,3 @@
 pub mod Covering
 pub mod Product
-pub mod Making
-pub mod Stages
-pub mod Seen
+pub mod Ties

@@ -4,9 +4,9 @@ ghost use Rattle.std.specs.Prelude.{◌≡◌, ◌↔◌, List, None, IfOk, OnOk
 ghost use Rattle.nwa_base.specs.declared.letters.Letter.{Letter};
 ghost use Rattle.nwa_base.specs.Members.{Member};
 ghost use Rattle.nwa_base.specs.Acceptance.{Accepts};
-ghost use Rattle.nwa_difference.specs.Making.{IsMade};
-ghost use Rattle.nwa_difference.specs.Stages.{IsStage};
-ghost use Rattle.nwa_difference.specs.Seen.{seen, found, stage};
+ghost use Rattle.nwa_difference.specs.Ties.Making.{IsMade};
+ghost use Rattle.nwa_difference.specs.Ties.Stages.{IsStage};
+ghost use Rattle.nwa_difference.specs.Ties.Seen.{seen, found, stage};
 
 use crate::pairs::Pairs;
 use crate::product::Product;

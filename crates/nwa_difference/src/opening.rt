@@ -1,8 +1,8 @@
 //! The edges of a state of the product, made all at once.
 
 ghost use Rattle.std.specs.Prelude.{◌<◌, OnOk, length};
-ghost use Rattle.nwa_difference.specs.Making.{IsMade, Extends, Nowhere, NoReturn, Only, OnlyReturn, HasInsides, HasCalls, HasBacks};
-ghost use Rattle.nwa_difference.specs.Seen.{seen};
+ghost use Rattle.nwa_difference.specs.Ties.Making.{IsMade, Extends, Nowhere, NoReturn, Only, OnlyReturn, HasInsides, HasCalls, HasBacks};
+ghost use Rattle.nwa_difference.specs.Ties.Seen.{seen};
 
 use crate::product::Product;
 use std::alloc::AllocError;

@@ -1,5 +1,5 @@
 //! The pairs of an entry and a state of the product to which words lead.
-#![tactic(auto, unfolding(crate::specs::Seen::found))]
+#![tactic(auto, unfolding(crate::specs::Ties::Seen::found))]
 
 ghost use Rattle.std.specs.Prelude.{◌≡◌, ◌<◌, ◌^◌, [], List, ℕ, IfOk, OnOk, length, slice_get};
 
@@ -24,8 +24,8 @@ pub struct Pairs {
 }
 
 impl Pairs {
-    ghost use Rattle.nwa_difference.specs.Stages.{Adds, AddsAt, Tells};
-    ghost use Rattle.nwa_difference.specs.Seen.{found};
+    ghost use Rattle.nwa_difference.specs.Ties.Stages.{Adds, AddsAt, Tells};
+    ghost use Rattle.nwa_difference.specs.Ties.Seen.{found};
 
     /// No pairs.
     pub fn new(alloc: Global) -> Self

@@ -1,8 +1,8 @@
 //! The product of an automaton and the sets of pairs of another. It grows while it is searched.
-#![tactic(auto, unfolding(crate::specs::Seen::seen))]
+#![tactic(auto, unfolding(crate::specs::Ties::Seen::seen))]
 
 ghost use Rattle.std.specs.Prelude.{◌≡◌, ◌≢◌, ◌<◌, ◌↔◌, ◌∷◌, [], false, IsTrue, Err, IfOk, OnOk, MatchOption, length, slice_index_or, if◌then◌else◌};
-ghost use Rattle.nwa_difference.specs.Making.{Ends};
+ghost use Rattle.nwa_difference.specs.Ties.Making.{Ends};
 
 use crate::covered::{Places, is_covered};
 use crate::covering::covers;
@@ -25,8 +25,8 @@ pub struct Product<'a> {
 
 impl<'a> Product<'a> {
     ghost use Rattle.nwa_base.specs.Members.{Member};
-    ghost use Rattle.nwa_difference.specs.Making.{IsMade, Extends, Nowhere, NoReturn, Only, OnlyReturn, IsInsideEnd, IsCallEnd, IsBackEnd, HasInside, HasCall, HasBack, NoReturns, first_at, number_at};
-    ghost use Rattle.nwa_difference.specs.Seen.{seen};
+    ghost use Rattle.nwa_difference.specs.Ties.Making.{IsMade, Extends, Nowhere, NoReturn, Only, OnlyReturn, IsInsideEnd, IsCallEnd, IsBackEnd, HasInside, HasCall, HasBack, NoReturns, first_at, number_at};
+    ghost use Rattle.nwa_difference.specs.Ties.Seen.{seen};
 
     /// The start alone.
     pub fn new(alloc: Global, first: &'a Nwa, second: &'a Nwa) -> Result<Self, AllocError>

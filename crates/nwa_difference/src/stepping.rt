@@ -2,8 +2,8 @@
 
 ghost use Rattle.std.specs.Prelude.{◌<◌, ◌≡◌, Some, OnOk, length};
 ghost use Rattle.nwa_base.specs.Members.{Member};
-ghost use Rattle.nwa_difference.specs.Stages.{IsStage, Goes, InsidesFollowed, CallsFollowed, BacksFollowed, ExitsFollowed, CallersFollowed, CallDone, CallsDone, ReturnsDone, ExitDone, Expanded};
-ghost use Rattle.nwa_difference.specs.Seen.{seen, found, stage};
+ghost use Rattle.nwa_difference.specs.Ties.Stages.{IsStage, Goes, InsidesFollowed, CallsFollowed, BacksFollowed, ExitsFollowed, CallersFollowed, CallDone, CallsDone, ReturnsDone, ExitDone, Expanded};
+ghost use Rattle.nwa_difference.specs.Ties.Seen.{seen, found, stage};
 
 use crate::opening::{make_backs, make_forward};
 use crate::pairs::Pairs;

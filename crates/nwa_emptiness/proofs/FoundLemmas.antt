@@ -2,7 +2,7 @@
 use Rattle.std.proofs.Common.{◌≡◌, ◌∙◌, ◌⊎◌, ◌<◌, ◌≤◌, ◌+◌, ℕ, zero, suc, List, [], ◌∷◌, ◌++◌, length, Option, None, Some, Bool, true, false, slice_get, IsTrue, IsSome, refl, sym, ap, subst, inl, inr, arith}
 use Rattle.std.specs.Prelude.{MatchOption, ◌↔◌}
 use Rattle.nwa_emptiness.specs.declared.spelling.Task.TheVariants as tasks
-use Rattle.nwa_emptiness.specs.Tasks.{IsFilling}
+use Rattle.nwa_emptiness.specs.Ties.Tasks.{IsFilling}
 use Rattle.nwa_emptiness.proofs.SpelledLemmas.{reached_accepted}
 use Rattle.std.proofs.lemmas.Bool.{cases_lt}
 use Rattle.nwa_base.specs.declared.letters.Kind.{Kind}
@@ -14,8 +14,8 @@ use Rattle.nwa_base.specs.Automata.{Automaton}
 use Rattle.nwa_base.specs.Acceptance.{Follows, AcceptsFrom, Accepts}
 use Rattle.nwa_emptiness.specs.declared.search.Point.{Point}
 use Rattle.nwa_emptiness.specs.Closed.{IsClosed, NoneFinal}
-use Rattle.nwa_emptiness.specs.Search.{Searched, IsPoint, Keeps}
-use Rattle.nwa_emptiness.specs.Steps.{Expanded}
+use Rattle.nwa_emptiness.specs.Ties.Search.{Searched, IsPoint, Keeps}
+use Rattle.nwa_emptiness.specs.Ties.Steps.{Expanded}
 use Rattle.nwa_emptiness.proofs.SearchLemmas.{member_kept, get_kept, get_member, get_within}
 use Rattle.nwa_emptiness.proofs.ClosedLemmas.{none_accepted}
 

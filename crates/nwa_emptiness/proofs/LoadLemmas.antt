@@ -4,7 +4,7 @@ use Rattle.std.proofs.lemmas.Bool.{cases_lt}
 use Rattle.nwa_base.specs.declared.letters.Letter.{Letter}
 use Rattle.nwa_emptiness.specs.declared.spelling.Task.{Task}
 use Rattle.nwa_emptiness.specs.declared.spelling.Task.TheVariants as tasks
-use Rattle.nwa_emptiness.specs.Loads.{weight_at, load}
+use Rattle.nwa_emptiness.specs.Ties.Loads.{weight_at, load}
 
 load_append : (ts us : List Task) → load (ts ++ us) ≡ load ts + load us
 load_append [] us = omega arith

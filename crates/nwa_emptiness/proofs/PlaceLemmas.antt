@@ -8,7 +8,7 @@ use Rattle.nwa_base.proofs.MemberLemmas.{member_front, member_rest, member_split
 use Rattle.nwa_emptiness.specs.declared.search.Link.{Link}
 use Rattle.nwa_emptiness.specs.declared.search.Link.TheVariants as links
 use Rattle.nwa_emptiness.specs.declared.search.Way.{Way}
-use Rattle.nwa_emptiness.specs.Search.{IsLink, IsCaller, IsWay, AreWays}
+use Rattle.nwa_emptiness.specs.Ties.Search.{IsLink, IsCaller, IsWay, AreWays}
 
 pub get_front : {X : Type 0} (xs ys : List X) (i : ℕ) (y : X) → slice_get xs i ≡ Some y → slice_get (xs ++ ys) i ≡ Some y
 get_front [] ys i y e = cc

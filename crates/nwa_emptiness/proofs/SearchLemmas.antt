@@ -10,7 +10,7 @@ use Rattle.nwa_base.specs.declared.letters.Letter.{Letter}
 use Rattle.nwa_emptiness.specs.declared.search.Link.{Link}
 use Rattle.nwa_emptiness.specs.declared.search.Link.TheVariants as links
 use Rattle.nwa_emptiness.specs.declared.search.Way.{Way}
-use Rattle.nwa_emptiness.specs.Search.{Searched, IsLink, IsCaller, IsWay, LinkLeadsBack, CallerLeadsBack, LeadsBack, AreWays, IsSearch, Keeps}
+use Rattle.nwa_emptiness.specs.Ties.Search.{Searched, IsLink, IsCaller, IsWay, LinkLeadsBack, CallerLeadsBack, LeadsBack, AreWays, IsSearch, Keeps}
 use Rattle.nwa_emptiness.proofs.PlaceLemmas.{get_front, get_last, get_push, ways_push, GrowsAt, group_front, group_last, group_split}
 
 pub get_within : {X : Type 0} (xs : List X) (i : ℕ) (x : X) → slice_get xs i ≡ Some x → i < length xs

@@ -10,8 +10,8 @@ use Rattle.nwa_base.proofs.LetterLemmas.{and_left, and_right, and_both}
 use Rattle.nwa_base.proofs.MemberLemmas.{member_filter, filter_member, member_split}
 use Rattle.nwa_emptiness.specs.declared.search.Link.TheVariants as links
 use Rattle.nwa_emptiness.specs.declared.search.Point.{Point}
-use Rattle.nwa_emptiness.specs.Search.{Searched, IsCaller, IsWay, IsSearch, IsPoint, Keeps}
-use Rattle.nwa_emptiness.specs.Steps.{IsCalled, IsInside, IsCalledFrom, IsJoint, Joined}
+use Rattle.nwa_emptiness.specs.Ties.Search.{Searched, IsCaller, IsWay, IsSearch, IsPoint, Keeps}
+use Rattle.nwa_emptiness.specs.Ties.Steps.{IsCalled, IsInside, IsCalledFrom, IsJoint, Joined}
 use Rattle.nwa_emptiness.proofs.PlaceLemmas.{caller_stays}
 use Rattle.nwa_emptiness.proofs.SearchLemmas.{keeps_none, keeps_on, member_kept, get_kept, past}
 

@@ -13,8 +13,8 @@ use Rattle.nwa_emptiness.specs.declared.search.Way.{Way}
 use Rattle.nwa_emptiness.specs.declared.spelling.Task.{Task}
 use Rattle.nwa_emptiness.specs.declared.spelling.Task.TheVariants as tasks
 use Rattle.nwa_emptiness.specs.Spelled.{Spells, Reaches}
-use Rattle.nwa_emptiness.specs.Search.{Searched, IsLink, IsCaller, IsSearch}
-use Rattle.nwa_emptiness.specs.Tasks.{IsFilling, AreFillings, IsRest}
+use Rattle.nwa_emptiness.specs.Ties.Search.{Searched, IsLink, IsCaller, IsSearch}
+use Rattle.nwa_emptiness.specs.Ties.Tasks.{IsFilling, AreFillings, IsRest}
 use Rattle.nwa_emptiness.proofs.SearchLemmas.{past, way_at, no_way_at}
 use Rattle.nwa_emptiness.proofs.SpelledLemmas.{inside_spelled, back_spelled, call_reached, no_call_reached}
 

@@ -6,8 +6,8 @@ use Rattle.nwa_base.specs.Automata.{Automaton}
 use Rattle.nwa_base.specs.Edges.{leaving, entering, backs_between}
 use Rattle.nwa_base.proofs.MemberLemmas.{member_at}
 use Rattle.nwa_emptiness.specs.declared.search.Point.{Point}
-use Rattle.nwa_emptiness.specs.Search.{Searched, IsSearch, IsPoint, Keeps}
-use Rattle.nwa_emptiness.specs.Steps.{IsCalled, IsInside, IsCalledFrom, IsJoint, Joined, InsideDone, ExitsJoined, CallsDone, CallersJoined, ReturnsDone, Expanded}
+use Rattle.nwa_emptiness.specs.Ties.Search.{Searched, IsSearch, IsPoint, Keeps}
+use Rattle.nwa_emptiness.specs.Ties.Steps.{IsCalled, IsInside, IsCalledFrom, IsJoint, Joined, InsideDone, ExitsJoined, CallsDone, CallersJoined, ReturnsDone, Expanded}
 use Rattle.nwa_emptiness.proofs.SearchLemmas.{keeps_on, member_kept, get_kept}
 use Rattle.nwa_emptiness.proofs.StepLemmas.{Each, leaves, does_leave, enters, does_enter, goes_between, joint_stays, joined_later, joined_earlier, joined_done}
 

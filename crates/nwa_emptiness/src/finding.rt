@@ -3,8 +3,8 @@
 ghost use Rattle.std.specs.Prelude.{None, IfOk, OnOk};
 ghost use Rattle.nwa_base.specs.Members.{Member};
 ghost use Rattle.nwa_emptiness.specs.Found.{IsFound};
-ghost use Rattle.nwa_emptiness.specs.Search.{IsSearch, IsPoint, Keeps};
-ghost use Rattle.nwa_emptiness.specs.Seen.{seen};
+ghost use Rattle.nwa_emptiness.specs.Ties.Search.{IsSearch, IsPoint, Keeps};
+ghost use Rattle.nwa_emptiness.specs.Ties.Seen.{seen};
 
 use crate::search::{Link, Point, Search, Way};
 use crate::spelling::letters_to;

@@ -1,5 +1,5 @@
 //! The pairs that a search has found, and how.
-#![tactic(auto, unfolding(crate::specs::Seen::seen))]
+#![tactic(auto, unfolding(crate::specs::Ties::Seen::seen))]
 
 ghost use Rattle.std.specs.Prelude.{◌≡◌, ◌≤◌, ◌<◌, ◌^◌, length, slice_get, IfOk, OnOk, MatchOption};
 
@@ -53,8 +53,8 @@ pub struct Search<'a> {
 impl<'a> Search<'a> {
     ghost use Rattle.nwa_base.specs.Members.{Member};
     ghost use Rattle.nwa_base.specs.Automata.{IsAutomaton};
-    ghost use Rattle.nwa_emptiness.specs.Search.{IsWay, IsSearch, IsPoint, Keeps};
-    ghost use Rattle.nwa_emptiness.specs.Seen.{seen};
+    ghost use Rattle.nwa_emptiness.specs.Ties.Search.{IsWay, IsSearch, IsPoint, Keeps};
+    ghost use Rattle.nwa_emptiness.specs.Ties.Seen.{seen};
 
     /// No pairs.
     pub fn new(alloc: Global, nwa: &'a Nwa) -> Self

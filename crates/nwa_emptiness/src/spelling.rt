@@ -2,10 +2,10 @@
 
 ghost use Rattle.std.specs.Prelude.{◌≡◌, ◌<◌, ◌++◌, ◌∷◌, [], List, IfOk, OnOk};
 ghost use Rattle.nwa_base.specs.declared.letters.Letter.{Letter};
-ghost use Rattle.nwa_emptiness.specs.Search.{IsSearch};
-ghost use Rattle.nwa_emptiness.specs.Seen.{seen};
-ghost use Rattle.nwa_emptiness.specs.Tasks.{IsFilling, AreFillings, IsRest};
-ghost use Rattle.nwa_emptiness.specs.Loads.{load};
+ghost use Rattle.nwa_emptiness.specs.Ties.Search.{IsSearch};
+ghost use Rattle.nwa_emptiness.specs.Ties.Seen.{seen};
+ghost use Rattle.nwa_emptiness.specs.Ties.Tasks.{IsFilling, AreFillings, IsRest};
+ghost use Rattle.nwa_emptiness.specs.Ties.Loads.{load};
 
 use crate::search::{Link, Search};
 use nwa_base::Letter;

@@ -2,9 +2,9 @@
 
 ghost use Rattle.std.specs.Prelude.{◌≡◌, Some, slice_get, OnOk};
 ghost use Rattle.nwa_base.specs.Members.{Member};
-ghost use Rattle.nwa_emptiness.specs.Search.{IsSearch, IsPoint, Keeps};
-ghost use Rattle.nwa_emptiness.specs.Seen.{seen};
-ghost use Rattle.nwa_emptiness.specs.Steps.{IsCalled, IsInside, IsCalledFrom, IsJoint, Joined, InsideDone, CallsDone, ExitsJoined, CallersJoined, ReturnsDone, Expanded};
+ghost use Rattle.nwa_emptiness.specs.Ties.Search.{IsSearch, IsPoint, Keeps};
+ghost use Rattle.nwa_emptiness.specs.Ties.Seen.{seen};
+ghost use Rattle.nwa_emptiness.specs.Ties.Steps.{IsCalled, IsInside, IsCalledFrom, IsJoint, Joined, InsideDone, CallsDone, ExitsJoined, CallersJoined, ReturnsDone, Expanded};
 
 use crate::search::{Link, Point, Search, Way};
 use nwa_base::Letter;

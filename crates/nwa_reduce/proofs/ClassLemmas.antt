@@ -6,12 +6,12 @@ use Rattle.nwa_base.specs.declared.letters.Letter.{Letter}
 use Rattle.nwa_base.specs.Members.{Member}
 use Rattle.nwa_base.specs.Automata.{Automaton}
 use Rattle.nwa_reduce.specs.Images.{IsLike}
-use Rattle.nwa_reduce.specs.Naming.{AreDistinct}
+use Rattle.nwa_reduce.specs.Ties.Naming.{AreDistinct}
 use Rattle.nwa_reduce.specs.declared.marking.Mark.{Mark}
 use Rattle.nwa_reduce.specs.declared.marking.Mark.TheVariants as marks
-use Rattle.nwa_reduce.specs.Marks.{leader_in, HasMark, backs_before}
-use Rattle.nwa_reduce.specs.Signatures.{IsSignature}
-use Rattle.nwa_reduce.specs.Classes.{Classed, IsClassed, WasSigned}
+use Rattle.nwa_reduce.specs.Ties.Marks.{leader_in, HasMark, backs_before}
+use Rattle.nwa_reduce.specs.Ties.Signatures.{IsSignature}
+use Rattle.nwa_reduce.specs.Ties.Classes.{Classed, IsClassed, WasSigned}
 use Rattle.nwa_reduce.proofs.ListLemmas.{get_front, get_last, get_push, get_within, same_some, distinct_push}
 use Rattle.nwa_reduce.proofs.TrimLemmas.{like_itself}
 

@@ -7,9 +7,9 @@ use Rattle.nwa_base.specs.Automata.{Automaton}
 use Rattle.nwa_base.specs.Edges.{leaving, backs_between, ends, back_ends}
 use Rattle.nwa_base.proofs.MemberLemmas.{member_at}
 use Rattle.nwa_base.proofs.PairLemmas.{ends_member, back_ends_member}
-use Rattle.nwa_reduce.specs.Naming.{named}
-use Rattle.nwa_reduce.specs.Levels.{Returns, AreJoins}
-use Rattle.nwa_reduce.specs.Folding.{IsFolding, IsCopy, IsStateCopy, IsJoinCopy, LeadsToName, ReturnsToName}
+use Rattle.nwa_reduce.specs.Ties.Naming.{named}
+use Rattle.nwa_reduce.specs.Ties.Levels.{Returns, AreJoins}
+use Rattle.nwa_reduce.specs.Ties.Folding.{IsFolding, IsCopy, IsStateCopy, IsJoinCopy, LeadsToName, ReturnsToName}
 use Rattle.nwa_reduce.proofs.ListLemmas.{get_within, same_some}
 use Rattle.nwa_reduce.proofs.NameLemmas.{name_of}
 use Rattle.nwa_reduce.proofs.EachLemmas.{Each, leaves, stands_between}

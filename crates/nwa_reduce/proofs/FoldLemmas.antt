@@ -7,8 +7,8 @@ use Rattle.nwa_base.specs.Members.{Member}
 use Rattle.nwa_base.specs.Automata.{Automaton, IsAutomaton}
 use Rattle.nwa_base.specs.Acceptance.{Follows, AcceptsFrom, Accepts}
 use Rattle.nwa_reduce.specs.Images.{IsImage}
-use Rattle.nwa_reduce.specs.Levels.{Stays, IsInCall}
-use Rattle.nwa_reduce.specs.Folding.{IsFolding}
+use Rattle.nwa_reduce.specs.Ties.Levels.{Stays, IsInCall}
+use Rattle.nwa_reduce.specs.Ties.Folding.{IsFolding}
 use Rattle.nwa_reduce.proofs.WayLemmas.{way_last, follows_leads}
 use Rattle.nwa_reduce.proofs.TrimLemmas.{leads_within}
 use Rattle.nwa_reduce.proofs.ImageLemmas.{AreNamed, step_there}

@@ -8,8 +8,8 @@ use Rattle.nwa_base.specs.Automata.{Automaton, IsAutomaton}
 use Rattle.nwa_base.specs.Edges.{entering, backs_leaving}
 use Rattle.nwa_base.proofs.MemberLemmas.{member_front, member_rest, member_split, filter_member}
 use Rattle.nwa_reduce.specs.Ways.{IsWay}
-use Rattle.nwa_reduce.specs.Searching.{IsSearched, AddsSteps}
-use Rattle.nwa_reduce.specs.Levels.{Stays, Returns, AreJoins, JoinsCallers, JoinsExits, JoinsOf}
+use Rattle.nwa_reduce.specs.Ties.Searching.{IsSearched, AddsSteps}
+use Rattle.nwa_reduce.specs.Ties.Levels.{Stays, Returns, AreJoins, JoinsCallers, JoinsExits, JoinsOf}
 use Rattle.nwa_reduce.proofs.ListLemmas.{only_member}
 use Rattle.nwa_reduce.proofs.StepLemmas.{edge_from}
 use Rattle.nwa_reduce.proofs.TrimLemmas.{all_member, way_closed}

@@ -4,7 +4,7 @@ use Rattle.std.proofs.lemmas.Bool.{eqb-true, false≢true}
 use Rattle.std.specs.List.{list_any}
 use Rattle.nwa_base.specs.Members.{Member}
 use Rattle.nwa_base.proofs.MemberLemmas.{any_member, member_any, member_front, member_rest, member_split}
-use Rattle.nwa_reduce.specs.Naming.{AreDistinct}
+use Rattle.nwa_reduce.specs.Ties.Naming.{AreDistinct}
 
 pub get_front : {X : Type 0} (xs ys : List X) (i : ℕ) (y : X) → slice_get xs i ≡ Some y → slice_get (xs ++ ys) i ≡ Some y
 get_front [] ys i y e = cc

@@ -10,7 +10,7 @@ use Rattle.nwa_base.proofs.LetterLemmas.{eqb-refl}
 use Rattle.nwa_base.proofs.MemberLemmas.{member_front, member_rest, member_split, member_map, member_from_map, member_filter, filter_member}
 use Rattle.nwa_reduce.specs.declared.marking.Mark.{Mark}
 use Rattle.nwa_reduce.specs.declared.marking.Mark.TheVariants as marks
-use Rattle.nwa_reduce.specs.Marks.{HasMark, backs_before, inside_marks, call_marks, back_marks, before_marks}
+use Rattle.nwa_reduce.specs.Ties.Marks.{HasMark, backs_before, inside_marks, call_marks, back_marks, before_marks}
 use Rattle.nwa_reduce.proofs.ListLemmas.{only_member}
 
 -- marks that are added one by one: those of the next member are made

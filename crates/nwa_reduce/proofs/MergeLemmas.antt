@@ -4,12 +4,12 @@ use Rattle.nwa_base.specs.Members.{Member}
 use Rattle.nwa_base.specs.Automata.{Automaton, IsAutomaton}
 use Rattle.nwa_reduce.specs.Lean.{AreTwins}
 use Rattle.nwa_reduce.specs.Images.{IsLike}
-use Rattle.nwa_reduce.specs.Naming.{AreDistinct, name_at, named, IsMerging}
+use Rattle.nwa_reduce.specs.Ties.Naming.{AreDistinct, name_at, named, IsMerging}
 use Rattle.nwa_reduce.specs.declared.marking.Mark.{Mark}
 use Rattle.nwa_reduce.specs.declared.marking.Mark.TheVariants as marks
-use Rattle.nwa_reduce.specs.Marks.{leader_in, HasMark}
-use Rattle.nwa_reduce.specs.Signatures.{IsSignature}
-use Rattle.nwa_reduce.specs.Classes.{Classed, IsClassed, WasSigned}
+use Rattle.nwa_reduce.specs.Ties.Marks.{leader_in, HasMark}
+use Rattle.nwa_reduce.specs.Ties.Signatures.{IsSignature}
+use Rattle.nwa_reduce.specs.Ties.Classes.{Classed, IsClassed, WasSigned}
 use Rattle.nwa_reduce.proofs.ListLemmas.{get_within, get_there, one_place, same_some}
 use Rattle.nwa_reduce.proofs.NameLemmas.{name_of}
 use Rattle.nwa_reduce.proofs.OrderLemmas.{ascending_same}

@@ -3,7 +3,7 @@ use Rattle.std.proofs.Common.{◌≡◌, ◌⊎◌, ◌↔◌, ◌<◌, ◌≤�
 use Rattle.std.proofs.lemmas.List.{take_more, take_all}
 use Rattle.nwa_base.specs.Members.{Member}
 use Rattle.nwa_base.proofs.MemberLemmas.{member_front, member_rest, member_split}
-use Rattle.nwa_reduce.specs.Naming.{AreDistinct, name_at, named, IsOrder}
+use Rattle.nwa_reduce.specs.Ties.Naming.{AreDistinct, name_at, named, IsOrder}
 use Rattle.nwa_reduce.proofs.ListLemmas.{past_end, only_member, distinct_insert, insert_old, insert_new, insert_either}
 
 -- of the first states those that are reached are kept

@@ -5,8 +5,8 @@ use Rattle.nwa_base.specs.Members.{Member, SameMembers}
 use Rattle.nwa_base.specs.Automata.{Automaton}
 use Rattle.nwa_base.proofs.MemberLemmas.{member_front, member_rest, member_split}
 use Rattle.nwa_reduce.specs.declared.marking.Mark.{Mark}
-use Rattle.nwa_reduce.specs.Marks.{IsNumbered, HasMark, Ascends}
-use Rattle.nwa_reduce.specs.Signatures.{Signs}
+use Rattle.nwa_reduce.specs.Ties.Marks.{IsNumbered, HasMark, Ascends}
+use Rattle.nwa_reduce.specs.Ties.Signatures.{Signs}
 use Rattle.nwa_reduce.proofs.ListLemmas.{get_front, only_member, distinct_insert}
 
 pub numbered_none : (old : List Mark) (numbers : List ℕ) → numbers ≡ [] → IsNumbered old old [] numbers

@@ -4,8 +4,8 @@ use Rattle.std.proofs.lemmas.Bool.{cases_lt}
 use Rattle.std.specs.List.{list_any}
 use Rattle.nwa_base.specs.Automata.{Automaton}
 use Rattle.nwa_base.specs.Members.{Member}
-use Rattle.nwa_reduce.specs.Naming.{name_at}
-use Rattle.nwa_reduce.specs.Folding.{IsTotal}
+use Rattle.nwa_reduce.specs.Ties.Naming.{name_at}
+use Rattle.nwa_reduce.specs.Ties.Folding.{IsTotal}
 use Rattle.nwa_reduce.proofs.ListLemmas.{get_within, get_there, get_front, get_last, get_push, member_get, number_absent, same_some}
 use Rattle.nwa_reduce.proofs.NameLemmas.{name_of}
 

@@ -5,7 +5,7 @@ use Rattle.std.specs.List.Sorted.{IsStrictlyIncreasing}
 use Rattle.std.proofs.lemmas.List.Kept.{AllPairs-from_increasing}
 use Rattle.nwa_base.specs.Members.{Member}
 use Rattle.nwa_base.proofs.PairLemmas.{member_contains}
-use Rattle.nwa_reduce.specs.Marks.{Ascends}
+use Rattle.nwa_reduce.specs.Ties.Marks.{Ascends}
 
 pairs_ascend : (xs : List ℕ) → AllPairs (λ x y. x < y) xs → Ascends xs
 pairs_ascend [] h = tt

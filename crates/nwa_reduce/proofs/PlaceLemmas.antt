@@ -3,7 +3,7 @@ use Rattle.std.proofs.Common.{◌≡◌, ◌∙◌, ◌<◌, ◌≤◌, ◌+◌,
 use Rattle.std.proofs.lemmas.Bool.{cases_eq}
 use Rattle.std.proofs.lemmas.List.{take_more, take_all, length-take-le}
 use Rattle.nwa_base.proofs.MemberLemmas.{member_split}
-use Rattle.nwa_reduce.specs.Naming.{name_at, named, IsIndex}
+use Rattle.nwa_reduce.specs.Ties.Naming.{name_at, named, IsIndex}
 use Rattle.nwa_reduce.proofs.ListLemmas.{get_front, get_last, only_member, same_some}
 
 get_set_same : {X : Type 0} (xs : List X) (i : ℕ) (x y : X) → slice_get (set xs i x) i ≡ Some y → x ≡ y

@@ -5,8 +5,8 @@ use Rattle.nwa_base.specs.Automata.{Automaton, IsAutomaton}
 use Rattle.nwa_reduce.specs.Ways.{Leads, IsWay, IsUseful}
 use Rattle.nwa_reduce.specs.Lean.{IsTrim, IsReduced}
 use Rattle.nwa_reduce.specs.Images.{IsImage}
-use Rattle.nwa_reduce.specs.Naming.{named, IsNaming, IsMerging}
-use Rattle.nwa_reduce.specs.Folding.{IsTotal, IsFolding}
+use Rattle.nwa_reduce.specs.Ties.Naming.{named, IsNaming, IsMerging}
+use Rattle.nwa_reduce.specs.Ties.Folding.{IsTotal, IsFolding}
 use Rattle.nwa_reduce.proofs.ListLemmas.{same_some}
 use Rattle.nwa_reduce.proofs.ImageLemmas.{image_accepts}
 use Rattle.nwa_reduce.proofs.FoldLemmas.{folding_accepts}

@@ -5,7 +5,7 @@ use Rattle.std.proofs.lemmas.List.{take_more, take_all}
 use Rattle.nwa_base.specs.Members.{Member}
 use Rattle.nwa_base.proofs.MemberLemmas.{member_front, member_rest, member_split}
 use Rattle.nwa_reduce.specs.Ways.{IsWay}
-use Rattle.nwa_reduce.specs.Searching.{IsSearched, Inserts}
+use Rattle.nwa_reduce.specs.Ties.Searching.{IsSearched, Inserts}
 use Rattle.nwa_reduce.proofs.ListLemmas.{get_member, get_within, member_get, same_some, only_member}
 use Rattle.nwa_reduce.proofs.WayLemmas.{way_last}
 

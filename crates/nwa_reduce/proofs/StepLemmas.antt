@@ -8,7 +8,7 @@ use Rattle.nwa_base.specs.Automata.{Automaton}
 use Rattle.nwa_base.proofs.MemberLemmas.{member_front, member_rest, member_split}
 use Rattle.nwa_base.proofs.EdgeLemmas.{GrowsAt}
 use Rattle.nwa_reduce.specs.Ways.{Leads}
-use Rattle.nwa_reduce.specs.Searching.{From, AddsSteps}
+use Rattle.nwa_reduce.specs.Ties.Searching.{From, AddsSteps}
 use Rattle.nwa_reduce.proofs.ListLemmas.{only_member}
 
 pub steps_none : {X : Type 0} (key value : X → ℕ) (old : ℕ → List ℕ) → AddsSteps key value [] old old

@@ -5,8 +5,8 @@ use Rattle.nwa_base.specs.Members.{Member}
 use Rattle.nwa_base.specs.Automata.{Automaton, IsAutomaton}
 use Rattle.nwa_reduce.specs.Ways.{Leads, IsWay, IsReached, CanEnd, IsUseful}
 use Rattle.nwa_reduce.specs.Images.{IsLike, IsSafe}
-use Rattle.nwa_reduce.specs.Searching.{IsSearched}
-use Rattle.nwa_reduce.specs.Naming.{named, IsTrimming, IsOrder, IsIndex}
+use Rattle.nwa_reduce.specs.Ties.Searching.{IsSearched}
+use Rattle.nwa_reduce.specs.Ties.Naming.{named, IsTrimming, IsOrder, IsIndex}
 use Rattle.nwa_reduce.proofs.ListLemmas.{get_within, member_or, few_below, fewer_below, same_some, only_member}
 use Rattle.nwa_reduce.proofs.NameLemmas.{name_of, no_name}
 use Rattle.nwa_reduce.proofs.WayLemmas.{ends_here, ends_from}

@@ -7,7 +7,7 @@ use Rattle.std.proofs.lemmas.List.{map-append}
 use Rattle.std.proofs.lemmas.Slice.Eq.{slice_eq-Decides}
 use lib.Pointwise.{pointwise}
 use Rattle.nwa_base.specs.Members.{Member}
-use Rattle.nwa_reduce.specs.Classes.{lists_of}
+use Rattle.nwa_reduce.specs.Ties.Classes.{lists_of}
 use Rattle.nwa_reduce.proofs.ListLemmas.{get_push, get_at, member_get}
 
 -- the test of vectors

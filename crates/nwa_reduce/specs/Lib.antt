@@ -1,12 +1,4 @@
 pub mod Ways
 pub mod Lean
 pub mod Images
-pub mod Searching
-pub mod Naming
-pub mod Rows
-pub mod Marks
-pub mod Signatures
-pub mod Classes
-pub mod Seen
-pub mod Levels
-pub mod Folding
+pub mod Ties

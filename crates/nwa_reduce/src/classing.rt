@@ -1,6 +1,6 @@
 //! Classes of states with one signature. The ends of edges stand by their leaders, so that states whose edges lead to states of
 //! one class come into one class, too, where their ends came before them.
-#![tactic(auto, unfolding(crate::specs::Seen::seen))]
+#![tactic(auto, unfolding(crate::specs::Ties::Seen::seen))]
 
 ghost use Rattle.std.specs.Prelude.{◌≡◌, ◌<◌, ◌+◌, ◌^◌, length, IfOk, OnOk, [], Some};
 
@@ -29,8 +29,8 @@ pub struct Classes<'a> {
 }
 
 impl<'a> Classes<'a> {
-    ghost use Rattle.nwa_reduce.specs.Classes.{IsClassed};
-    ghost use Rattle.nwa_reduce.specs.Seen.{seen};
+    ghost use Rattle.nwa_reduce.specs.Ties.Classes.{IsClassed};
+    ghost use Rattle.nwa_reduce.specs.Ties.Seen.{seen};
 
     /// No state has a class.
     pub fn new(alloc: Global, nwa: &'a Nwa) -> Result<Self, AllocError>

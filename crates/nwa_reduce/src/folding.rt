@@ -3,9 +3,9 @@
 ghost use Rattle.std.specs.Prelude.{◌≡◌, ◌<◌, ℕ, Some, IsTrue, length};
 ghost use Rattle.nwa_base.specs.declared.letters.Letter.{Letter};
 ghost use Rattle.nwa_base.specs.Members.{Member};
-ghost use Rattle.nwa_reduce.specs.Naming.{named};
-ghost use Rattle.nwa_reduce.specs.Levels.{AreJoins, Returns};
-ghost use Rattle.nwa_reduce.specs.Folding.{IsFolding, IsCopy, IsStateCopy, IsJoinCopy, LeadsToName, ReturnsToName};
+ghost use Rattle.nwa_reduce.specs.Ties.Naming.{named};
+ghost use Rattle.nwa_reduce.specs.Ties.Levels.{AreJoins, Returns};
+ghost use Rattle.nwa_reduce.specs.Ties.Folding.{IsFolding, IsCopy, IsStateCopy, IsJoinCopy, LeadsToName, ReturnsToName};
 
 use crate::joining::returns;
 use crate::naming::Names;

@@ -6,7 +6,7 @@ ghost use Rattle.nwa_base.specs.declared.letters.Kind.TheVariants.{Inside, Call}
 ghost use Rattle.nwa_base.specs.declared.letters.Letter.{Letter};
 ghost use Rattle.nwa_base.specs.Automata.{IsAutomaton, IsEdge, IsBackEdge};
 ghost use Rattle.nwa_base.specs.Members.{Member};
-ghost use Rattle.nwa_reduce.specs.Naming.{named};
+ghost use Rattle.nwa_reduce.specs.Ties.Naming.{named};
 ghost use Rattle.nwa_reduce.specs.Images.{Among, IsNamedEdge, IsNamedBack, IsImage};
 
 use crate::naming::Names;

@@ -2,8 +2,8 @@
 
 ghost use Rattle.std.specs.Prelude.{◌≡◌, ◌∷◌, ◌↔◌, ℕ, [], IsTrue, IfOk, OnOk};
 ghost use Rattle.nwa_base.specs.Members.{Member};
-ghost use Rattle.nwa_reduce.specs.Rows.{row_of};
-ghost use Rattle.nwa_reduce.specs.Levels.{Stays, Returns, AreJoins, JoinsOf, JoinsCallers, JoinsExits};
+ghost use Rattle.nwa_reduce.specs.Ties.Rows.{row_of};
+ghost use Rattle.nwa_reduce.specs.Ties.Levels.{Stays, Returns, AreJoins, JoinsOf, JoinsCallers, JoinsExits};
 
 use crate::rows::Rows;
 use crate::searching::search;

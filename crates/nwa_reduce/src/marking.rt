@@ -1,10 +1,10 @@
 //! What tells states apart.
 
 ghost use Rattle.std.specs.Prelude.{◌≡◌, ◌↔◌, ◌⊎◌, ◌++◌, ℕ, nat_eq, IfOk, OnOk};
-ghost use Rattle.nwa_reduce.specs.Rows.{row_of};
+ghost use Rattle.nwa_reduce.specs.Ties.Rows.{row_of};
 ghost use Rattle.nwa_base.specs.Members.{Member};
 ghost use Rattle.nwa_reduce.specs.declared.marking.Mark.{Mark};
-ghost use Rattle.nwa_reduce.specs.Marks.{leader_in, HasMark, backs_before, inside_marks, call_marks, back_marks, before_marks};
+ghost use Rattle.nwa_reduce.specs.Ties.Marks.{leader_in, HasMark, backs_before, inside_marks, call_marks, back_marks, before_marks};
 
 use crate::rows::Rows;
 use nwa_base::{Letter, Nwa};

@@ -1,7 +1,7 @@
 //! Names for states with one signature.
 
 ghost use Rattle.std.specs.Prelude.{IfOk};
-ghost use Rattle.nwa_reduce.specs.Naming.{IsMerging};
+ghost use Rattle.nwa_reduce.specs.Ties.Naming.{IsMerging};
 
 use crate::classing::Classes;
 use crate::naming::Names;

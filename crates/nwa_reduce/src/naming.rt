@@ -13,7 +13,7 @@ pub struct Names {
 }
 
 impl Names {
-    ghost use Rattle.nwa_reduce.specs.Naming.{named};
+    ghost use Rattle.nwa_reduce.specs.Ties.Naming.{named};
     ghost use Rattle.nwa_reduce.specs.Images.{IsNamedEdge, IsNamedBack};
 
     /// The name of a state.

@@ -1,7 +1,7 @@
 //! Names for states of one class, whatever the classes.
 
 ghost use Rattle.std.specs.Prelude.{◌≡◌, ◌≤◌, IfOk, length};
-ghost use Rattle.nwa_reduce.specs.Folding.{IsTotal};
+ghost use Rattle.nwa_reduce.specs.Ties.Folding.{IsTotal};
 
 use crate::naming::Names;
 use indexmap::IndexSet;

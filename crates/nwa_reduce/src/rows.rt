@@ -1,7 +1,7 @@
 //! Values in rows that are found by their numbers.
 
 ghost use Rattle.std.specs.Prelude.{◌≡◌, ℕ, [], ◌∷◌, ◌++◌, ◌<◌, nat_eq, length, OnOk, if◌then◌else◌};
-ghost use Rattle.nwa_reduce.specs.Rows.{row_of};
+ghost use Rattle.nwa_reduce.specs.Ties.Rows.{row_of};
 
 use std::alloc::{AllocError, Global};
 

@@ -1,8 +1,8 @@
 //! The states to which ways lead.
 
 ghost use Rattle.std.specs.Prelude.{nat_eq, IfOk, OnOk};
-ghost use Rattle.nwa_reduce.specs.Rows.{row_of};
-ghost use Rattle.nwa_reduce.specs.Searching.{IsSearched, Inserts};
+ghost use Rattle.nwa_reduce.specs.Ties.Rows.{row_of};
+ghost use Rattle.nwa_reduce.specs.Ties.Searching.{IsSearched, Inserts};
 
 use crate::rows::Rows;
 use crate::states::States;

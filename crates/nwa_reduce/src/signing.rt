@@ -2,8 +2,8 @@
 
 ghost use Rattle.std.specs.Prelude.{◌≡◌, IfOk};
 ghost use Rattle.nwa_base.specs.Members.{SameMembers};
-ghost use Rattle.nwa_reduce.specs.Marks.{IsNumbered, Ascends, leader_in, backs_before};
-ghost use Rattle.nwa_reduce.specs.Signatures.{Signs};
+ghost use Rattle.nwa_reduce.specs.Ties.Marks.{IsNumbered, Ascends, leader_in, backs_before};
+ghost use Rattle.nwa_reduce.specs.Ties.Signatures.{Signs};
 
 use crate::marking::{Mark, marks_of};
 use indexmap::IndexSet;

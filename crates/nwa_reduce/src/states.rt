@@ -2,7 +2,7 @@
 
 ghost use Rattle.std.specs.Prelude.{◌≡◌, ◌<◌, ◌^◌, ℕ, [], ◌∷◌, ◌++◌, ◌||◌, nat_eq, length, slice_get, OnOk, OnErr, if◌then◌else◌};
 ghost use Rattle.std.specs.List.{list_any};
-ghost use Rattle.nwa_reduce.specs.Rows.{mark_at};
+ghost use Rattle.nwa_reduce.specs.Ties.Rows.{mark_at};
 
 use std::alloc::{AllocError, Global};
 use std::marker::Model;
@@ -18,7 +18,7 @@ pub struct States {
 impl Model for States {
     ghost use Rattle.std.specs.Prelude.{◌≡◌, ℕ, List, nat_eq};
     ghost use Rattle.std.specs.List.{list_any};
-    ghost use Rattle.nwa_reduce.specs.Rows.{mark_at};
+    ghost use Rattle.nwa_reduce.specs.Ties.Rows.{mark_at};
 
     ghost Value = { List ℕ };
 

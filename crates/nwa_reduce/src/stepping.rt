@@ -1,11 +1,11 @@
 //! Where edges lead, whatever their letters.
 
 ghost use Rattle.std.specs.Prelude.{◌↔◌, ℕ, nat_eq, IfOk, OnOk};
-ghost use Rattle.nwa_reduce.specs.Rows.{row_of};
+ghost use Rattle.nwa_reduce.specs.Ties.Rows.{row_of};
 ghost use Rattle.nwa_base.specs.Members.{Member};
 ghost use Rattle.nwa_reduce.specs.Ways.{Leads};
-ghost use Rattle.nwa_reduce.specs.Levels.{Stays};
-ghost use Rattle.nwa_reduce.specs.Searching.{AddsSteps};
+ghost use Rattle.nwa_reduce.specs.Ties.Levels.{Stays};
+ghost use Rattle.nwa_reduce.specs.Ties.Searching.{AddsSteps};
 
 use crate::rows::Rows;
 use nwa_base::{Letter, Nwa};

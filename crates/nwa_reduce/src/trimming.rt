@@ -3,7 +3,7 @@
 ghost use Rattle.std.specs.Prelude.{◌≡◌, ◌<◌, ◌≤◌, ◌^◌, ◌↔◌, ℕ, List, None, Some, length, slice_set, IfOk};
 ghost use Rattle.nwa_base.specs.Members.{Member};
 ghost use Rattle.nwa_reduce.specs.Ways.{IsReached, CanEnd};
-ghost use Rattle.nwa_reduce.specs.Naming.{named, IsTrimming, IsOrder, IsIndex};
+ghost use Rattle.nwa_reduce.specs.Ties.Naming.{named, IsTrimming, IsOrder, IsIndex};
 
 use crate::naming::Names;
 use crate::searching::search;

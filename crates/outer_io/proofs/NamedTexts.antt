@@ -5,7 +5,7 @@ use Rattle.std.specs.List.{position_or_len}
 use Rattle.std.proofs.Math.Numerals.{one-add}
 use Rattle.std.proofs.lemmas.Bool.{cond_both, ltb-true, ltb-false}
 use Rattle.outer_io.specs.Texts.{text_named}
-use Rattle.outer_io.specs.MemShelf.{shown_texts, text_at}
+use Rattle.outer_io.specs.Ties.MemShelf.{shown_texts, text_at}
 
 -- a text in memory has less than 2^63 bytes
 pub length-text_at : (texts : List (String Global × Vec ℕ Global)) (i : ℕ) → length (text_at (shown_texts texts) i) < 2 ^ 63

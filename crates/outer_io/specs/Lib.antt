@@ -1,5 +1,4 @@
 pub mod Faults
 pub mod Lines
-pub mod MemShelf
-pub mod MemSink
 pub mod Texts
+pub mod Ties

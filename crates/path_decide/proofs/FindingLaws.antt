@@ -21,8 +21,8 @@ use Rattle.int_decide.specs.Decisions.{Decision, refuted, whole, gap, WhereRefut
 use Rattle.int_decide.specs.Numbers.{RowsFit, GroupsFit, LeavesFit, DecideFits}
 use Rattle.int_decide.specs.Sizes.{total, extent, group_count, AllMembers, SystemBelow}
 use Rattle.int_decide.proofs.Opening.{SystemBelow_open, SystemBelow_close, extent_opened}
-use Rattle.difference_rows.specs.Differences.{IsDifference}
-use Rattle.difference_rows.specs.Laws.{DifferencesAreDecided}
+use Rattle.int_decide.specs.DifferenceRows.Differences.{IsDifference}
+use Rattle.int_decide.specs.DifferenceRows.Laws.{DifferencesAreDecided}
 use Rattle.nwa_base.specs.declared.letters.Letter.{Letter}
 use Rattle.letter_acts.specs.Invariant.{Graph}
 use Rattle.path_rows.specs.Paths.{PlainPath, IsPathOf, path_of}

@@ -15,7 +15,7 @@ use Rattle.int_decide.specs.Decisions.{Decision, refuted, whole, gap, WhereRefut
 use Rattle.int_decide.specs.Decide.{decide_rows}
 use Rattle.int_decide.specs.Numbers.{RowsFit, LeavesFit}
 use Rattle.int_decide.specs.Worth.{IsTreeOf}
-use Rattle.difference_rows.specs.Differences.{IsDifference}
+use Rattle.int_decide.specs.DifferenceRows.Differences.{IsDifference}
 use Rattle.nwa_base.specs.declared.letters.Letter.{Letter}
 use Rattle.letter_acts.specs.Invariant.{Graph}
 use Rattle.path_rows.specs.Paths.{path_of}

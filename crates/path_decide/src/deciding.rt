@@ -9,10 +9,10 @@ ghost use Rattle.path_rows.specs.Paths.{IsPathOf};
 ghost use Rattle.path_decide.specs.Decided.{IsAnswer, IsOwn, IsRowsRefutation};
 
 use crate::calls::returned_calls;
-use difference_rows::laws::differences_are_decided;
+use crate::late_refutations::{Calls, late, lemmas};
 use farkas_check::Refutation;
+use int_decide::difference_rows::laws::differences_are_decided;
 use int_decide::{Answer, DecideFault, decide, plain};
-use late_refutations::{Calls, late, lemmas};
 use lin_rows::System;
 use path_rows::PathSystem;
 use std::alloc::{AllocError, Global};

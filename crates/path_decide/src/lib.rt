@@ -3,5 +3,6 @@
 
 mod calls;
 mod deciding;
+pub mod late_refutations;
 
 pub use deciding::{decide_path, late_path, lemma_path, plain_path};

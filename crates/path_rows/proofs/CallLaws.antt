@@ -14,7 +14,7 @@ use Rattle.letter_acts.specs.Invariant.{CallIsActed, call_width, MayName}
 use Rattle.letter_acts.proofs.ListLemmas.{all_from_members}
 use Rattle.letter_acts.proofs.PointLemmas.{state_length}
 use Rattle.letter_acts.proofs.FrameLemmas.{variable_below}
-use Rattle.frame_rows.specs.Rows.{bounds, types_of, columns_from}
+use Rattle.letter_acts.specs.FrameRows.Rows.{bounds, types_of, columns_from}
 use Rattle.path_rows.specs.Versions.{PathStage, part_rows, call_part, entered_versions, local_columns, old_part}
 use Rattle.path_rows.specs.Solutions.{read, CallObeyed}
 use Rattle.path_rows.proofs.ListLemmas.{all_joined, length-columns_from, length-read, length-read_from, read_picked, split_same}

@@ -8,7 +8,7 @@ use Rattle.boogie_tree.specs.declared.tree.Ty.{Ty}
 use Rattle.lin_rows.specs.Rows.{LinearRow}
 use Rattle.letter_acts.specs.Frames.{Columns, variables_of}
 use Rattle.path_rows.specs.declared.parts.Made.{Made}
-use Rattle.frame_rows.specs.Rows.{renamed, bounds, types_of, columns_from, RowsAreNamed}
+use Rattle.letter_acts.specs.FrameRows.Rows.{renamed, bounds, types_of, columns_from, RowsAreNamed}
 use Rattle.path_rows.specs.Versions.{entered_versions, entry_rows, call_part, local_columns, old_part}
 use Rattle.path_rows.specs.Drafts.{IsMade}
 

@@ -7,8 +7,8 @@ use Rattle.nwa_base.specs.Members.{Member}
 use Rattle.letter_acts.specs.Frames.{added, places}
 use Rattle.letter_acts.specs.Invariant.{AreDistinct}
 use Rattle.path_rows.specs.Versions.{written_over}
-use Rattle.frame_rows.specs.Rows.{columns_from}
-use Rattle.frame_rows.proofs.RenamingLaws.{numbers_differ}
+use Rattle.letter_acts.specs.FrameRows.Rows.{columns_from}
+use Rattle.letter_acts.proofs.FrameRows.RenamingLaws.{numbers_differ}
 
 pub member_joined : (xs ys : List ℕ) (c : ℕ) → Member (xs ++ ys) c → Member xs c ⊎ Member ys c
 member_joined [] ys c m = inr m

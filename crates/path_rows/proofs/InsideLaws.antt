@@ -12,7 +12,7 @@ use Rattle.letter_acts.specs.Values.{picked}
 use Rattle.letter_acts.specs.Invariant.{MayWrite, InsideIsActed, inside_width}
 use Rattle.letter_acts.proofs.ListLemmas.{all_weaker, some_within}
 use Rattle.letter_acts.proofs.PointLemmas.{state_length, picked_put}
-use Rattle.frame_rows.specs.Rows.{bounds, types_at, columns_from}
+use Rattle.letter_acts.specs.FrameRows.Rows.{bounds, types_at, columns_from}
 use Rattle.path_rows.specs.Versions.{PathStage, part_rows, inside_part}
 use Rattle.path_rows.specs.Solutions.{read, InsideObeyed}
 use Rattle.path_rows.proofs.ListLemmas.{all_joined, columns_split, length-columns_from, length-read, length-read_from, read_written}

@@ -8,7 +8,7 @@ use Rattle.boogie_tree.specs.declared.tree.Column.TheVariants.{Old, Local}
 use Rattle.letter_acts.specs.Frames.{Columns, IsFrame, added, globals_from, old_columns, locals_from, is_local, globals_of, variables_of, olds_from, olds_of}
 use Rattle.letter_acts.proofs.FrameLemmas.{global_count, olds_are, olds_of_variables}
 use Rattle.path_rows.specs.Versions.{local_columns, old_part}
-use Rattle.frame_rows.specs.Frames.{is_old}
+use Rattle.letter_acts.specs.FrameRows.Frames.{is_old}
 
 local_globals : (n : ℕ) (vs : List VarInfo) → filter is_local (globals_from n vs) ≡ []
 local_globals n [] = refl

@@ -6,7 +6,7 @@ use Rattle.std.proofs.lemmas.List.{map-set, length-map}
 use Rattle.lin_rows.specs.Points.{point_of}
 use Rattle.letter_acts.specs.Values.{picked, put_all}
 use Rattle.path_rows.specs.Versions.{written_over}
-use Rattle.frame_rows.specs.Rows.{columns_from}
+use Rattle.letter_acts.specs.FrameRows.Rows.{columns_from}
 use Rattle.path_rows.specs.Solutions.{read}
 
 pub all_joined : {X : Type 0} (P : X → Type 0) (xs ys : List X) → AllByRecursion P (xs ++ ys) ↔ (AllByRecursion P xs × AllByRecursion P ys)

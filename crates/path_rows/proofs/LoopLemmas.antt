@@ -4,7 +4,7 @@ use Rattle.std.specs.Prelude.{map, reverse, slice_set}
 use Rattle.std.specs.Global.{Vec}
 use Rattle.std.proofs.lemmas.List.{take_more, drop_more, length-take-le, map-append, reverse-append}
 use Rattle.lin_rows.specs.Rows.{LinearRow}
-use Rattle.frame_rows.specs.Rows.{equal_row}
+use Rattle.letter_acts.specs.FrameRows.Rows.{equal_row}
 use Rattle.path_rows.specs.Versions.{PathStage, entry_rows, written_over}
 use Rattle.path_rows.specs.Paths.{repeated}
 

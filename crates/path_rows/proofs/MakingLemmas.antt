@@ -16,7 +16,7 @@ use Rattle.letter_acts.specs.Invariant.{Graph, IsGraph, alphabet_of}
 use Rattle.letter_acts.specs.Kept.{Keeps}
 use Rattle.letter_acts.proofs.ListLemmas.{all_append}
 use Rattle.path_rows.specs.declared.drafts.Draft.{Draft}
-use Rattle.frame_rows.specs.Rows.{types_of}
+use Rattle.letter_acts.specs.FrameRows.Rows.{types_of}
 use Rattle.path_rows.specs.Versions.{PathStage, Part, part_rows, part_of}
 use Rattle.path_rows.specs.Paths.{Path, PlainPath, IsPathOf, repeated, start_frame, first_stage, path_of}
 use Rattle.path_rows.specs.Stages.{GoesOnBy}

@@ -10,8 +10,8 @@ use Rattle.lin_rows.specs.Points.{point_of}
 use Rattle.letter_acts.specs.Frames.{Columns, IsState}
 use Rattle.letter_acts.specs.Values.{picked, put_all}
 use Rattle.letter_acts.specs.Invariant.{type_at, Take}
-use Rattle.frame_rows.specs.Rows.{renamed, bounds_of, bounds, types_of, types_at, columns_from}
-use Rattle.frame_rows.proofs.RowLaws.{renamed_holds, equal_holds, IsValueOf, bound_holds}
+use Rattle.letter_acts.specs.FrameRows.Rows.{renamed, bounds_of, bounds, types_of, types_at, columns_from}
+use Rattle.letter_acts.proofs.FrameRows.RowLaws.{renamed_holds, equal_holds, IsValueOf, bound_holds}
 use Rattle.path_rows.specs.Versions.{entry_rows}
 use Rattle.path_rows.specs.Solutions.{read}
 use Rattle.path_rows.proofs.ListLemmas.{all_joined, read_at}

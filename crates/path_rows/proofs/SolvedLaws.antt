@@ -20,7 +20,7 @@ use Rattle.letter_acts.proofs.ListLemmas.{all_weaker, all_append}
 use Rattle.letter_acts.proofs.PointLemmas.{point_of-left, point_of-right, state_length}
 use Rattle.letter_acts.proofs.KnownLemmas.{frames_laid_out}
 use Rattle.path_rows.specs.Versions.{PathStage, Part, written_over, entered_versions, returned, local_columns, old_part, inside_part, call_part, back_part, return_part, part_of, act_part}
-use Rattle.frame_rows.specs.Rows.{columns_from}
+use Rattle.letter_acts.specs.FrameRows.Rows.{columns_from}
 use Rattle.path_rows.specs.Paths.{path_along, first_stage}
 use Rattle.path_rows.specs.Solutions.{read, ActObeyed, ObeyedAlong, BackObeyed, ReturnObeyed}
 use Rattle.path_rows.proofs.ListLemmas.{length-read, read_written}

@@ -16,14 +16,14 @@ use Rattle.letter_acts.specs.Invariant.{Graph, alphabet_of, AreDistinct, MayWrit
 use Rattle.letter_acts.proofs.ListLemmas.{all_weaker, some_within, below_or_from}
 use Rattle.letter_acts.proofs.FrameLemmas.{variable_below}
 use Rattle.path_rows.specs.Versions.{PathStage, written_over, entered_versions, returned, local_columns, old_part, inside_part, call_part}
-use Rattle.frame_rows.specs.Rows.{columns_from, NamesDiffer}
+use Rattle.letter_acts.specs.FrameRows.Rows.{columns_from, NamesDiffer}
 use Rattle.path_rows.specs.Stages.{AreVersions, AreApart, AreSaved, InsideFits, CallFits, BackFits}
 use Rattle.path_rows.proofs.ListLemmas.{length-columns_from}
 use Rattle.path_rows.proofs.LayoutLemmas.{laid_out, length-globals_from}
 use Rattle.path_rows.proofs.CallLaws.{CallFrames, olds_at, entered_length, call_names_length, call_below}
 use Rattle.path_rows.proofs.OpenLemmas.{results_within, at_place}
 use Rattle.path_rows.proofs.SolvedLaws.{Below, below_more, below_columns, all_written, below_entered, below_returned}
-use Rattle.frame_rows.proofs.RenamingLaws.{numbers_differ}
+use Rattle.letter_acts.proofs.FrameRows.RenamingLaws.{numbers_differ}
 use Rattle.path_rows.proofs.DifferLemmas.{member_joined, distinct_joined, distinct_written, length_written, written_cases, taken_at, dropped_at, distinct_taken, distinct_dropped, index_left, index_right, index_taken, index_dropped, columns_within, columns_distinct, columns_at, places_distinct, indexed_member, distinct_indexed, member_below, index_below}
 
 -- ---- rows

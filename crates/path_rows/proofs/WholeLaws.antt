@@ -19,7 +19,7 @@ use Rattle.letter_acts.specs.Feasible.{Obeys, IsFeasible, meaning}
 use Rattle.letter_acts.specs.Invariant.{Graph, IsGraph, alphabet_of, IsPlaceOf}
 use Rattle.letter_acts.proofs.PointLemmas.{state_length}
 use Rattle.letter_acts.proofs.WayLemmas.{along_by_stack}
-use Rattle.frame_rows.specs.Rows.{bounds, types_of}
+use Rattle.letter_acts.specs.FrameRows.Rows.{bounds, types_of}
 use Rattle.path_rows.specs.Paths.{start_frame, first_stage, path_along, path_of}
 use Rattle.path_rows.specs.Solutions.{read, Solves, ReadOff, SolvedBy}
 use Rattle.path_rows.proofs.ListLemmas.{all_joined}

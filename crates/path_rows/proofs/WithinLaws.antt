@@ -13,7 +13,7 @@ use Rattle.letter_acts.specs.Frames.{Columns, variables_of}
 use Rattle.letter_acts.specs.Acts.{PlainAct, inside_act, call_act, back_act, Alphabet, frame_of}
 use Rattle.letter_acts.specs.Invariant.{Graph, IsGraph, alphabet_of, type_at}
 use Rattle.letter_acts.proofs.ListLemmas.{all_weaker, all_append}
-use Rattle.frame_rows.specs.Rows.{columns_from, renamed, bounds, bounds_of, types_of, types_at}
+use Rattle.letter_acts.specs.FrameRows.Rows.{columns_from, renamed, bounds, bounds_of, types_of, types_at}
 use Rattle.path_rows.specs.Versions.{PathStage, Part, part_rows, local_columns, old_part, entered_versions, entry_rows, inside_part, call_part, back_part, return_part, part_of}
 use Rattle.path_rows.specs.Stages.{InsideFits, CallFits, GoesOnBy}
 use Rattle.path_rows.proofs.SolvedLaws.{Below, below_more, below_columns, below_entered}

@@ -5,7 +5,7 @@ use Rattle.nwa_base.specs.Acceptance.{AcceptsFrom}
 use Rattle.lin_rows.specs.Rows.{LinearRow}
 use Rattle.letter_acts.specs.Frames.{Columns}
 use Rattle.letter_acts.specs.Invariant.{Graph, alphabet_of}
-use Rattle.frame_rows.specs.Rows.{bounds, types_of}
+use Rattle.letter_acts.specs.FrameRows.Rows.{bounds, types_of}
 use Rattle.path_rows.specs.declared.parts.Made.{Made}
 use Rattle.path_rows.specs.declared.drafts.Draft.{Draft}
 use Rattle.path_rows.specs.Versions.{PathStage, Part, part_rows}

@@ -7,7 +7,7 @@ use Rattle.nwa_base.specs.Acceptance.{Accepts}
 use Rattle.letter_acts.specs.Frames.{Columns}
 use Rattle.letter_acts.specs.Acts.{Alphabet, frame_of}
 use Rattle.letter_acts.specs.Invariant.{Graph, alphabet_of}
-use Rattle.frame_rows.specs.Rows.{bounds, types_of, columns_from}
+use Rattle.letter_acts.specs.FrameRows.Rows.{bounds, types_of, columns_from}
 use Rattle.path_rows.specs.Versions.{PathStage, part_rows, part_of}
 
 -- the rows of a word; the letter that made each row and each column, from 1 and 0 for the start; and the versions of the

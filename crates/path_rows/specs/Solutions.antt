@@ -9,7 +9,7 @@ use Rattle.letter_acts.specs.Meaning.{Situation, InsideLeads, CallLeads, BackLea
 use Rattle.letter_acts.specs.Feasible.{Obeys}
 use Rattle.letter_acts.specs.Invariant.{Graph, alphabet_of}
 use Rattle.path_rows.specs.Versions.{PathStage, local_columns, inside_part, call_part, back_part, part_of}
-use Rattle.frame_rows.specs.Rows.{columns_from}
+use Rattle.letter_acts.specs.FrameRows.Rows.{columns_from}
 use Rattle.path_rows.specs.Paths.{start_frame, first_stage, path_of}
 
 -- the values that the point has at these columns

@@ -8,7 +8,7 @@ use Rattle.letter_acts.specs.Frames.{Columns, globals_of, variables_of, result_c
 use Rattle.letter_acts.specs.Acts.{PlainAct, inside_act, call_act, back_act, Alphabet, frame_of}
 use Rattle.letter_acts.specs.Invariant.{Graph, alphabet_of, IsPlaceOf, AreDistinct}
 use Rattle.path_rows.specs.Versions.{PathStage, entered_versions, returned, local_columns, old_part}
-use Rattle.frame_rows.specs.Rows.{columns_from, RowsAreNamed}
+use Rattle.letter_acts.specs.FrameRows.Rows.{columns_from, RowsAreNamed}
 
 -- a version for each column of the frame: they are made, and no two are equal
 pub record AreVersions (made : ℕ) (frame : Columns) (here : List ℕ) : Type 0 where

@@ -4,8 +4,8 @@ use Rattle.nwa_base.specs.declared.letters.Letter.{Letter}
 use Rattle.lin_rows.specs.Rows.{LinearRow}
 use Rattle.letter_acts.specs.Frames.{Columns, is_local, globals_of, variables_of, result_columns}
 use Rattle.letter_acts.specs.Acts.{PlainAct, inside_act, call_act, back_act, Alphabet, frame_of, act_of}
-use Rattle.frame_rows.specs.Rows.{columns_from, renamed, equal_row, bounds, types_of, types_at}
-use Rattle.frame_rows.specs.Frames.{is_old}
+use Rattle.letter_acts.specs.FrameRows.Rows.{columns_from, renamed, equal_row, bounds, types_of, types_at}
+use Rattle.letter_acts.specs.FrameRows.Frames.{is_old}
 
 -- Where the path of a word has come to: how many columns are made, the versions of the present frame's columns, and those
 -- of the frames before the open calls, innermost first.

@@ -5,13 +5,13 @@ ghost use Rattle.letter_acts.specs.Invariant.{alphabet_of};
 ghost use Rattle.letter_acts.specs.Kept.{Keeps};
 ghost use Rattle.path_rows.specs.Paths.{repeated};
 ghost use Rattle.path_rows.specs.Stages.{BackFitsFrom, returned_from};
-ghost use Rattle.frame_rows.specs.Rows.{bounds, types_of, columns_from};
+ghost use Rattle.letter_acts.specs.FrameRows.Rows.{bounds, types_of, columns_from};
 
 use crate::parts::{MOST_COLUMNS, Made, call_part, inside_part};
 use crate::times::add_times;
 use crate::versions::returned;
 use boogie_tree::{Column, VarInfo};
-use frame_rows::{add_columns, bound_rows, types_of};
+use letter_acts::frame_rows::{add_columns, bound_rows, types_of};
 use letter_acts::{Act, Icfg};
 use lin_rows::{Col, Row};
 use nwa_base::Letter;

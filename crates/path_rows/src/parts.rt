@@ -3,7 +3,7 @@
 ghost use Rattle.std.specs.Prelude.{◌≡◌, ◌+◌, ◌<◌, ◌≤◌, ◌^◌, [], ◌++◌, IfOk, OnOk, length, map, slice_index};
 ghost use Rattle.std.specs.List.{AllByRecursion};
 ghost use Rattle.letter_acts.specs.Frames.{variables_of};
-ghost use Rattle.frame_rows.specs.Rows.{renamed, bounds, types_at, types_of, columns_from, RowsAreNamed};
+ghost use Rattle.letter_acts.specs.FrameRows.Rows.{renamed, bounds, types_at, types_of, columns_from, RowsAreNamed};
 ghost use Rattle.path_rows.specs.Versions.{inside_part, call_part, written_over, entered_versions, entry_rows, local_columns, old_part};
 ghost use Rattle.path_rows.specs.Stages.{InsideFits, CallFits};
 ghost use Rattle.path_rows.specs.Drafts.{IsMade};
@@ -11,7 +11,9 @@ ghost use Rattle.path_rows.specs.Drafts.{IsMade};
 use crate::rows::entry_rows;
 use crate::versions::{entered, picked, write_over};
 use boogie_tree::{Column, Ty, VarInfo};
-use frame_rows::{Class, add_columns, bound_rows, numbers_of, renamed_rows, types_at, types_in};
+use letter_acts::frame_rows::{
+    Class, add_columns, bound_rows, numbers_of, renamed_rows, types_at, types_in,
+};
 use lin_rows::{Col, Row};
 use std::alloc::{AllocError, Global};
 

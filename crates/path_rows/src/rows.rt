@@ -5,7 +5,7 @@ ghost use Rattle.std.specs.List.{AllByRecursion};
 ghost use Rattle.lin_rows.specs.Rows.{IsRow};
 ghost use Rattle.path_rows.specs.Versions.{entry_rows};
 
-use frame_rows::equal_row;
+use letter_acts::frame_rows::equal_row;
 use lin_rows::{Col, Row};
 use std::alloc::{AllocError, Global};
 

@@ -6,7 +6,7 @@ ghost use Rattle.letter_acts.specs.Frames.{globals_of, result_columns};
 ghost use Rattle.path_rows.specs.Versions.{written_over, entered_versions, returned, local_columns, old_part};
 
 use boogie_tree::{Column, VarInfo};
-use frame_rows::{Class, add_columns, numbers_of};
+use letter_acts::frame_rows::{Class, add_columns, numbers_of};
 use lin_rows::Col;
 use std::alloc::{AllocError, Global};
 

@@ -17,24 +17,24 @@ use Rattle.proof_names.specs.declared.outlines.Listed.{Listed}
 use Rattle.proof_names.specs.declared.outlines.NamedTriple.{NamedTriple}
 use Rattle.proof_names.specs.declared.outlines.NamedStep.{NamedStep}
 use Rattle.proof_names.specs.Outlines.{OutlineNode, Sketch}
-use Rattle.proof_spell.specs.declared.drafts.Shown.{Shown}
-use Rattle.proof_spell.specs.Correspond.{Correspond}
-use Rattle.proof_spell.specs.Drafts.{PlainShown, plain, MayBeShown, MayBeSpelled}
-use Rattle.proof_spell.specs.Spelled.{SpellsPred, SpellsTriple, Spells, IsOutlined, Outlines}
+use Rattle.proof_names.specs.declared.proof_spell.drafts.Shown.{Shown}
+use Rattle.proof_names.specs.ProofSpell.Correspond.{Correspond}
+use Rattle.proof_names.specs.ProofSpell.Drafts.{PlainShown, plain, MayBeShown, MayBeSpelled}
+use Rattle.proof_names.specs.ProofSpell.Spelled.{SpellsPred, SpellsTriple, Spells, IsOutlined, Outlines}
 use Rattle.proof_check.specs.Proves.{Proves}
-use Rattle.proof_unwind.specs.declared.unwinding.Unwound.{Unwound}
-use Rattle.proof_unwind.specs.Spots.{nodes_of}
-use Rattle.proof_unwind.specs.Unwindings.{Spreads}
-use Rattle.proof_unwind.specs.Exploring.{IsExploring, AreOpened}
-use Rattle.proof_unwind.specs.Renumbering.{PlacesAscend}
+use Rattle.proof_build.specs.declared.proof_unwind.unwinding.Unwound.{Unwound}
+use Rattle.proof_build.specs.ProofUnwind.Spots.{nodes_of}
+use Rattle.proof_build.specs.ProofUnwind.Unwindings.{Spreads}
+use Rattle.proof_build.specs.ProofUnwind.Exploring.{IsExploring, AreOpened}
+use Rattle.proof_build.specs.ProofUnwind.Renumbering.{PlacesAscend}
 use Rattle.proof_build.specs.Unwindings.{draft_of}
 use Rattle.proof_build.specs.Unwound.{AreCovering, IsUnwound}
-use Rattle.proof_build.specs.Built.{unwinding_of, IsUnwoundBy}
+use Rattle.proof_build.specs.Ties.Built.{unwinding_of, IsUnwoundBy}
 use Rattle.proof_build.specs.Numbering.{StartHasBody, AreListed, AreAllNumbered}
 use Rattle.proof_build.specs.Sketches.{Says, IsReachable, AreReachable, AreInOrder, IsUsed, AreUsed, AreOnce}
-use Rattle.proof_build.specs.Listing.{AreTriplesOf, listed_in, AreNeededOnce}
-use Rattle.proof_build.specs.Needs.{AreNeeded}
-use Rattle.proof_build.specs.Unions.{IsUnionOf}
+use Rattle.proof_build.specs.Ties.Listing.{AreTriplesOf, listed_in, AreNeededOnce}
+use Rattle.proof_build.specs.Ties.Needs.{AreNeeded}
+use Rattle.proof_build.specs.Ties.Unions.{IsUnionOf}
 use Rattle.proof_build.proofs.ScopeLaws.{all_of_member, all_from_members, may_be_spelled}
 use Rattle.proof_build.proofs.ProvingLaws.{proves}
 use Rattle.proof_build.proofs.TripleLaws.{one_may}

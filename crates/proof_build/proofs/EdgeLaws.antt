@@ -5,7 +5,7 @@ use Rattle.std.specs.List.{filter_map, cons_option}
 use Rattle.nwa_base.specs.declared.letters.Letter.{Letter}
 use Rattle.nwa_base.specs.declared.faults.NwaFault.{NwaFault}
 use Rattle.nwa_base.specs.Automata.{Automaton}
-use Rattle.proof_build.specs.Unions.{numbered, numbered_back, with_edges}
+use Rattle.proof_build.specs.Ties.Unions.{numbered, numbered_back, with_edges}
 use Rattle.proof_build.proofs.ListLaws.{passed_next, on_ok}
 
 -- the list with what is made of one member more

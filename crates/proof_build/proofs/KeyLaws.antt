@@ -10,7 +10,7 @@ use Rattle.proof_names.specs.declared.outlines.Listed.{Listed}
 use Rattle.proof_build.specs.declared.noted.NotedKey.{NotedKey}
 use Rattle.proof_build.specs.declared.noted.NotedKey.TheVariants.{Inside, Call, Back}
 use Rattle.proof_build.specs.contracts.noted.NotedKeyPartialEq.TheImpl as noted_test
-use Rattle.proof_build.specs.Noted.{plain_key, IsInserted}
+use Rattle.proof_build.specs.Ties.Noted.{plain_key, IsInserted}
 
 or_here : (a b : Bool) → a ≡ true → a || b ≡ true
 or_here true b e = refl

@@ -11,3 +11,4 @@ mod SpreadLaws
 mod ReachLaws
 mod NeedLaws
 mod BuildLaws
+pub mod ProofUnwind

@@ -4,7 +4,7 @@ use Rattle.std.specs.Prelude.{map, slice_get, Result, Ok, Err, OnOk}
 use Rattle.std.specs.List.{AllByRecursion, filter_map, cons_option}
 use Rattle.std.proofs.lemmas.List.{take_more, take_all, map_more}
 use Rattle.itp_automaton.proofs.StateLaws.{take_next}
-use Rattle.proof_spell.specs.Correspond.{Correspond}
+use Rattle.proof_names.specs.ProofSpell.Correspond.{Correspond}
 
 pub mapped_behind : {X Y : Type 0} (f : X → Y) (xs : List X) (i : ℕ) (d : X) (begin old new : List Y) → i < length xs → old ≡ begin ++ map f (take i xs) →
     new ≡ old ++ f (get_or xs i d) ∷ [] → new ≡ begin ++ map f (take (i + 1) xs)

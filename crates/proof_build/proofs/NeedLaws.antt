@@ -11,13 +11,13 @@ use Rattle.proof_names.specs.declared.outlines.Listed.{Listed}
 use Rattle.proof_names.specs.declared.outlines.Listed.TheVariants.{Back}
 use Rattle.proof_names.specs.declared.outlines.NamedStep.TheVariants as steps
 use Rattle.proof_names.specs.Outlines.{OutlineNode}
-use Rattle.proof_unwind.specs.declared.spots.Spot.{Spot}
-use Rattle.proof_unwind.specs.Spots.{nodes_of}
-use Rattle.proof_unwind.specs.Unwindings.{node_at}
+use Rattle.proof_build.specs.declared.proof_unwind.spots.Spot.{Spot}
+use Rattle.proof_build.specs.ProofUnwind.Spots.{nodes_of}
+use Rattle.proof_build.specs.ProofUnwind.Unwindings.{node_at}
 use Rattle.proof_build.specs.Unwindings.{steps_of}
 use Rattle.proof_build.specs.Sketches.{IsUsed}
-use Rattle.proof_build.specs.Noted.{IsInserted}
-use Rattle.proof_build.specs.Needs.{Numbers, inside_numbers, call_numbers, IsAmong, Leads, BackLeads, IsNoted, IsBackNoted, IsUse, IsBackUse, NotesAll, NotesBacks, IsUseIn, IsBackUseIn, NotesSteps, NotesBackSteps, AreNeeded}
+use Rattle.proof_build.specs.Ties.Noted.{IsInserted}
+use Rattle.proof_build.specs.Ties.Needs.{Numbers, inside_numbers, call_numbers, IsAmong, Leads, BackLeads, IsNoted, IsBackNoted, IsUse, IsBackUse, NotesAll, NotesBacks, IsUseIn, IsBackUseIn, NotesSteps, NotesBackSteps, AreNeeded}
 use Rattle.proof_build.proofs.WordLaws.{node_is}
 use Rattle.proof_build.proofs.ReachLaws.{inside_step_in, call_step_in, back_step_in}
 

@@ -16,8 +16,8 @@ use Rattle.triple_rows.proofs.ListLaws.{within}
 use Rattle.itp_automaton.specs.Certified.{Certificate}
 use Rattle.itp_automaton.specs.Making.{named_in}
 use Rattle.itp_automaton.proofs.StateLaws.{member_at, place_of, one_place, distinct_more}
-use Rattle.proof_spell.specs.Correspond.{Correspond}
-use Rattle.proof_spell.specs.Drafts.{MayBeNamed}
+use Rattle.proof_names.specs.ProofSpell.Correspond.{Correspond}
+use Rattle.proof_names.specs.ProofSpell.Drafts.{MayBeNamed}
 use Rattle.proof_build.specs.Numbering.{HasBody, IsNumberOf, IsNumber, truth_number, AreNumbers, number_at, AreListed, IsNumbered, AreNumbered, AreAllNumbered, ListsMore}
 use Rattle.proof_build.proofs.ListLaws.{got_front, got_last, all_push, all_mapped}
 use Rattle.proof_build.proofs.ScopeLaws.{all_of_member}

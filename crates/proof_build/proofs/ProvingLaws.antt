@@ -24,12 +24,12 @@ use Rattle.proof_names.specs.declared.outlines.NamedStep.{NamedStep}
 use Rattle.proof_names.specs.declared.outlines.NamedStep.TheVariants as steps
 use Rattle.proof_names.specs.Outlines.{OutlineNode, Sketch}
 use Rattle.proof_names.specs.Items.{Names}
-use Rattle.proof_spell.specs.Correspond.{Correspond}
-use Rattle.proof_spell.specs.Drafts.{PlainShown, MayBeShown}
-use Rattle.proof_spell.specs.Spelled.{IsOutlined, Outlines}
+use Rattle.proof_names.specs.ProofSpell.Correspond.{Correspond}
+use Rattle.proof_names.specs.ProofSpell.Drafts.{PlainShown, MayBeShown}
+use Rattle.proof_names.specs.ProofSpell.Spelled.{IsOutlined, Outlines}
 use Rattle.proof_check.specs.Steps.{IsNode, IsOpen, Lists, InsideIsSound, CallIsSound, BackIsSound, StepIsSound, ReturnIsSound, IsSound, BacksTo, HasSteps, HasBacks}
 use Rattle.proof_check.specs.Proves.{IsRefutedBy, IsShown, HasStart, HasStartIn, ErrorIsFalse, Proves}
-use Rattle.proof_unwind.specs.Unwindings.{node_at, node_place_in, entry_of, bare}
+use Rattle.proof_build.specs.ProofUnwind.Unwindings.{node_at, node_place_in, entry_of, bare}
 use Rattle.proof_build.specs.Unwindings.{Unwinding, step_of, back_of, steps_of, draft_of, HasTriple}
 use Rattle.proof_build.specs.Unwound.{AreCovering, IsUnwound}
 use Rattle.proof_build.proofs.WordLaws.{node_is, node_there, error_has_false}

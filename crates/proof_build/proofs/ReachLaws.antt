@@ -8,7 +8,7 @@ use Rattle.nwa_base.proofs.MemberLemmas.{member_front, member_rest, member_map}
 use Rattle.proof_names.specs.declared.outlines.NamedStep.{NamedStep}
 use Rattle.proof_names.specs.declared.outlines.NamedStep.TheVariants as steps
 use Rattle.proof_names.specs.Outlines.{OutlineNode}
-use Rattle.proof_unwind.specs.Unwindings.{entry_of, IsReached, IsPart}
+use Rattle.proof_build.specs.ProofUnwind.Unwindings.{entry_of, IsReached, IsPart}
 use Rattle.proof_build.specs.Unwindings.{step_of, back_of, steps_of}
 use Rattle.proof_build.specs.Sketches.{sources, IsLedTo, AreFoundInTurn, IsReachable}
 use Rattle.proof_build.proofs.ListLaws.{all_mapped}

@@ -22,10 +22,10 @@ use Rattle.proof_names.specs.declared.outlines.Listed.TheVariants.{Inside, Call,
 use Rattle.proof_names.specs.declared.outlines.NamedStep.{NamedStep}
 use Rattle.proof_names.specs.Naming.{scoped_at, triple_at, IsPredOf, MayBegin, IsNodeIn, StepIsIn, ReturnIsIn, BackIsIn, IsInScope}
 use Rattle.proof_names.specs.Outlines.{OutlineNode}
-use Rattle.proof_spell.specs.Drafts as drafts
-use Rattle.proof_spell.specs.Drafts.{PlainShown, MayBeShown, MayStand, MayBeSpelled}
+use Rattle.proof_names.specs.ProofSpell.Drafts as drafts
+use Rattle.proof_names.specs.ProofSpell.Drafts.{PlainShown, MayBeShown, MayStand, MayBeSpelled}
 use Rattle.proof_check.proofs.NamedLaws.{inside_two, call_two, back_three}
-use Rattle.proof_unwind.specs.Unwindings.{node_at, node_place_in, entry_of, bare}
+use Rattle.proof_build.specs.ProofUnwind.Unwindings.{node_at, node_place_in, entry_of, bare}
 use Rattle.proof_build.specs.Unwindings.{Unwinding, step_of, back_of, steps_of, draft_of}
 use Rattle.proof_build.specs.Unwound.{IsUnwound}
 use Rattle.proof_build.proofs.WordLaws.{node_is, node_there, kept_everywhere}

@@ -21,15 +21,15 @@ use Rattle.proof_names.specs.declared.outlines.Listed.{Listed}
 use Rattle.proof_names.specs.declared.outlines.Listed.TheVariants.{Inside, Call, Back}
 use Rattle.proof_names.specs.Columns.{is_some_entry}
 use Rattle.proof_names.specs.Outlines.{OutlineNode}
-use Rattle.proof_spell.specs.Drafts.{PlainShown}
+use Rattle.proof_names.specs.ProofSpell.Drafts.{PlainShown}
 use Rattle.proof_check.specs.Steps.{IsOf}
-use Rattle.proof_unwind.specs.Unwindings.{node_at, node_place_in, entry_of, bare, Claims, Spreads}
-use Rattle.proof_unwind.specs.Exploring.{IsExploring}
+use Rattle.proof_build.specs.ProofUnwind.Unwindings.{node_at, node_place_in, entry_of, bare, Claims, Spreads}
+use Rattle.proof_build.specs.ProofUnwind.Exploring.{IsExploring}
 use Rattle.proof_build.specs.Unwindings.{HasTriple, IsShown}
 use Rattle.proof_build.specs.Numbering.{HasBody, StartHasBody, IsNumberOf, IsNumber, AreNumbers, AreListed, IsNumbered, AreNumbered, AreAllNumbered}
-use Rattle.proof_build.specs.Listing.{AreTriplesOf}
-use Rattle.proof_build.specs.Needs.{AreNeeded}
-use Rattle.proof_build.specs.Unions.{HasEdgesOf, IsUnionOf}
+use Rattle.proof_build.specs.Ties.Listing.{AreTriplesOf}
+use Rattle.proof_build.specs.Ties.Needs.{AreNeeded}
+use Rattle.proof_build.specs.Ties.Unions.{HasEdgesOf, IsUnionOf}
 use Rattle.proof_build.proofs.WordLaws.{node_is, kept_everywhere}
 use Rattle.proof_build.proofs.ScopeLaws.{all_of_member, same_proc, call_ends, back_leaves, back_kind}
 use Rattle.proof_build.proofs.NumberLaws.{one_number}

@@ -25,10 +25,10 @@ use Rattle.proof_names.specs.declared.outlines.Listed.{Listed}
 use Rattle.proof_names.specs.declared.outlines.Listed.TheVariants.{Inside, Call, Back}
 use Rattle.proof_names.specs.Options.{both}
 use Rattle.proof_names.specs.Naming.{scoped_at, inside_at, call_at, return_at, back_at, triple_at, letter_in, width}
-use Rattle.proof_spell.specs.Drafts.{PlainShown, IsWithin, MayBeShown}
+use Rattle.proof_names.specs.ProofSpell.Drafts.{PlainShown, IsWithin, MayBeShown}
 use Rattle.proof_build.specs.Unwindings.{HasTriple}
 use Rattle.proof_build.specs.Numbering.{IsNumberOf, AreListed}
-use Rattle.proof_build.specs.Listing.{IsListedAs, AreItsNumbers, IsOneOf, IsListedIn, Shows, AreTriplesOf, listed_in, IsFirst, AreNumbersOf, AreNeededOnce}
+use Rattle.proof_build.specs.Ties.Listing.{IsListedAs, AreItsNumbers, IsOneOf, IsListedIn, Shows, AreTriplesOf, listed_in, IsFirst, AreNumbersOf, AreNeededOnce}
 use Rattle.proof_build.proofs.ListLaws.{map_joined}
 use Rattle.proof_build.proofs.NumberLaws.{one_number}
 

@@ -11,7 +11,7 @@ use Rattle.triple_rows.specs.declared.triples.Scoped.{Scoped}
 use Rattle.itp_automaton.specs.Certified.{Certificate}
 use Rattle.proof_names.specs.Options.{both}
 use Rattle.proof_build.specs.Numbering.{AreNumbers}
-use Rattle.proof_build.specs.Unions.{numbered, numbered_back, with_edges, IsInsideOf, IsCallOf, IsBackOf, HasEdgesOf, IsUnionOf}
+use Rattle.proof_build.specs.Ties.Unions.{numbered, numbered_back, with_edges, IsInsideOf, IsCallOf, IsBackOf, HasEdgesOf, IsUnionOf}
 
 -- ---- members of what is made
 

@@ -10,9 +10,9 @@ use Rattle.nwa_base.specs.Automata.{Automaton}
 use Rattle.nwa_base.specs.Acceptance.{Follows, AcceptsFrom, Accepts, Moves}
 use Rattle.nwa_base.proofs.WayLemmas.{moves_join, moves_below}
 use Rattle.proof_names.specs.Outlines.{OutlineNode}
-use Rattle.proof_spell.specs.Correspond.{Correspond}
+use Rattle.proof_names.specs.ProofSpell.Correspond.{Correspond}
 use Rattle.proof_check.specs.Steps.{IsOf, IsOpen}
-use Rattle.proof_unwind.specs.Unwindings.{node_at, node_place_in, IsAlong, IsReached, IsPart, Claims, Spreads}
+use Rattle.proof_build.specs.ProofUnwind.Unwindings.{node_at, node_place_in, IsAlong, IsReached, IsPart, Claims, Spreads}
 use Rattle.proof_build.specs.Unwound.{AreCovering}
 
 -- ---- nodes by number

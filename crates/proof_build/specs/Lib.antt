@@ -1,9 +1,7 @@
 pub mod Unwindings
 pub mod Unwound
 pub mod Numbering
-pub mod Listing
-pub mod Unions
-pub mod Built
 pub mod Sketches
-pub mod Noted
-pub mod Needs
+pub mod ProofUnwind
+pub mod ProofLean
+pub mod Ties

@@ -9,7 +9,7 @@ use Rattle.itp_automaton.specs.Certified.{Certificate, IsTruthAt}
 use Rattle.itp_automaton.specs.Making.{named_in}
 use Rattle.proof_names.specs.Columns.{is_some_entry}
 use Rattle.proof_names.specs.Naming.{scoped_at}
-use Rattle.proof_spell.specs.Drafts.{MayBeNamed}
+use Rattle.proof_names.specs.ProofSpell.Drafts.{MayBeNamed}
 
 -- ---- procedures with bodies
 

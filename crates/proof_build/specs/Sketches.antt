@@ -12,8 +12,8 @@ use Rattle.proof_names.specs.declared.outlines.NamedStep.TheVariants as steps
 use Rattle.proof_names.specs.Outlines.{OutlineNode, Sketch}
 use Rattle.proof_names.specs.Items.{Names}
 use Rattle.proof_check.specs.Steps.{IsOf}
-use Rattle.proof_unwind.specs.Unwindings.{node_at}
-use Rattle.proof_unwind.specs.Renumbering.{PlacesAscend}
+use Rattle.proof_build.specs.ProofUnwind.Unwindings.{node_at}
+use Rattle.proof_build.specs.ProofUnwind.Renumbering.{PlacesAscend}
 
 -- what the lines of the annotation name is so
 abbrev pub Says : Graph → (Sketch → Type 0) → Content → Type 0

@@ -9,9 +9,9 @@ use Rattle.proof_names.specs.declared.outlines.Listed.TheVariants.{Inside, Call,
 use Rattle.proof_names.specs.declared.outlines.NamedStep.{NamedStep}
 use Rattle.proof_names.specs.declared.outlines.NamedStep.TheVariants as steps
 use Rattle.proof_names.specs.Outlines.{OutlineNode}
-use Rattle.proof_spell.specs.Drafts.{PlainShown, Draft}
+use Rattle.proof_names.specs.ProofSpell.Drafts.{PlainShown, Draft}
 use Rattle.proof_check.specs.Steps.{IsOf}
-use Rattle.proof_unwind.specs.Unwindings.{node_at}
+use Rattle.proof_build.specs.ProofUnwind.Unwindings.{node_at}
 
 -- Predicates, triples over them, nodes, and an automaton whose states are the numbers of the nodes: its edges inside and its calls are
 -- the steps, its returns the backs.

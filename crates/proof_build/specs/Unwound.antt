@@ -6,8 +6,8 @@ use Rattle.nwa_base.specs.Members.{Member}
 use Rattle.nwa_base.specs.Automata.{Automaton}
 use Rattle.nwa_base.specs.Acceptance.{Accepts}
 use Rattle.letter_acts.specs.Invariant.{Graph}
-use Rattle.proof_spell.specs.Drafts.{MayBeNamed, MayBeShown, AscendFrom}
-use Rattle.proof_unwind.specs.Unwindings.{node_at, entry_of, bare, IsAlong, ClosesUnwinding, IsReached, IsPart, Spreads}
+use Rattle.proof_names.specs.ProofSpell.Drafts.{MayBeNamed, MayBeShown, AscendFrom}
+use Rattle.proof_build.specs.ProofUnwind.Unwindings.{node_at, entry_of, bare, IsAlong, ClosesUnwinding, IsReached, IsPart, Spreads}
 use Rattle.proof_build.specs.Unwindings.{Unwinding, IsShown}
 
 -- each word that the automaton accepts is accepted by one of these

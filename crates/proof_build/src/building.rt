@@ -6,19 +6,20 @@ ghost use Rattle.letter_acts.specs.Invariant.{alphabet_of};
 ghost use Rattle.itp_automaton.specs.Certified.{IsCertified};
 ghost use Rattle.proof_names.specs.Items.{Names};
 ghost use Rattle.proof_names.specs.Outlines.{Sketch};
-ghost use Rattle.proof_spell.specs.Drafts.{MayBeSpelled};
-ghost use Rattle.proof_spell.specs.Spelled.{Outlines, Spells};
+ghost use Rattle.proof_names.specs.ProofSpell.Drafts.{MayBeSpelled};
+ghost use Rattle.proof_names.specs.ProofSpell.Spelled.{Outlines, Spells};
 ghost use Rattle.proof_check.specs.Proves.{Proves};
-ghost use Rattle.proof_unwind.specs.Exploring.{IsOverPreds};
+ghost use Rattle.proof_build.specs.ProofUnwind.Exploring.{IsOverPreds};
 ghost use Rattle.proof_build.specs.Numbering.{StartHasBody, AreListed, AreAllNumbered};
 ghost use Rattle.proof_build.specs.Unwindings.{draft_of};
 ghost use Rattle.proof_build.specs.Unwound.{AreCovering};
-ghost use Rattle.proof_build.specs.Built.{unwinding_of, IsUnwoundBy};
+ghost use Rattle.proof_build.specs.Ties.Built.{unwinding_of, IsUnwoundBy};
 ghost use Rattle.proof_build.specs.Sketches.{Says, AreReachable, AreInOrder, AreUsed, AreOnce};
-ghost use Rattle.proof_build.specs.Unions.{IsUnionOf};
+ghost use Rattle.proof_build.specs.Ties.Unions.{IsUnionOf};
 
 use crate::listing::listed_preds;
 use crate::needs::needed_by;
+use crate::proof_unwind::{Unwound, by_place, unwind};
 use crate::spots::{named_nodes, named_steps};
 use crate::triples::triples_of;
 use crate::unions::union_of;
@@ -26,8 +27,7 @@ use itp_automaton::{Certified, Predicates};
 use letter_acts::Icfg;
 use nwa_base::Nwa;
 use proof_form::Annotation;
-use proof_spell::{Shown, spell};
-use proof_unwind::{Unwound, by_place, unwind};
+use proof_names::proof_spell::{Shown, spell};
 use std::alloc::{AllocError, Global};
 
 /// The graph unwound by the union of the automata, its nodes in the order of their places.

@@ -7,6 +7,8 @@ mod listing;
 mod needs;
 mod noted;
 mod numbers;
+pub mod proof_lean;
+pub mod proof_unwind;
 mod spots;
 mod triples;
 mod unions;

@@ -2,14 +2,14 @@
 
 ghost use Rattle.std.specs.Prelude.{◌≡◌, ℕ, ◌↔◌, IsTrue, IfOk, OnOk, MatchOption};
 ghost use Rattle.nwa_base.specs.Members.{Member};
-ghost use Rattle.proof_unwind.specs.Unwindings.{node_at};
-ghost use Rattle.proof_unwind.specs.Spots.{nodes_of};
-ghost use Rattle.proof_build.specs.Needs.{inside_numbers, call_numbers, IsAmong, Leads, BackLeads, NotesAll, NotesBacks, NotesSteps, NotesBackSteps, AreNeeded};
+ghost use Rattle.proof_build.specs.ProofUnwind.Unwindings.{node_at};
+ghost use Rattle.proof_build.specs.ProofUnwind.Spots.{nodes_of};
+ghost use Rattle.proof_build.specs.Ties.Needs.{inside_numbers, call_numbers, IsAmong, Leads, BackLeads, NotesAll, NotesBacks, NotesSteps, NotesBackSteps, AreNeeded};
 
 use crate::noted::Noted;
+use crate::proof_unwind::{Spot, Unwound, spot_at};
 use nwa_base::{Letter, Nwa};
 use proof_names::Listed;
-use proof_unwind::{Spot, Unwound, spot_at};
 use std::alloc::{AllocError, Global};
 
 /// The predicates of a node.

@@ -1,7 +1,7 @@
 //! Numbers of triples, each noted once.
 
 ghost use Rattle.std.specs.Prelude.{◌≡◌};
-ghost use Rattle.proof_build.specs.Noted.{plain_key};
+ghost use Rattle.proof_build.specs.Ties.Noted.{plain_key};
 
 use indexmap::IndexSet;
 use proof_names::Listed;
@@ -58,7 +58,7 @@ pub(crate) struct Noted {
 impl Model for Noted {
     ghost use Rattle.std.specs.Prelude.{List, map};
     ghost use Rattle.proof_names.specs.declared.outlines.Listed.{Listed};
-    ghost use Rattle.proof_build.specs.Noted.{plain_key};
+    ghost use Rattle.proof_build.specs.Ties.Noted.{plain_key};
 
     ghost Value = { List Listed };
 
@@ -68,7 +68,7 @@ impl Model for Noted {
 impl Noted {
     ghost use Rattle.std.specs.Prelude.{◌↔◌, [], IsTrue, IfOk};
     ghost use Rattle.nwa_base.specs.Members.{Member};
-    ghost use Rattle.proof_build.specs.Noted.{IsInserted};
+    ghost use Rattle.proof_build.specs.Ties.Noted.{IsInserted};
 
     /// None yet.
     pub(crate) fn new(alloc: Global) -> Self

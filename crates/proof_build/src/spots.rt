@@ -2,12 +2,12 @@
 
 ghost use Rattle.std.specs.Prelude.{◌≡◌, ◌++◌, IfOk, OnOk, map};
 ghost use Rattle.proof_names.specs.Outlines.{node};
-ghost use Rattle.proof_unwind.specs.Spots.{nodes_of};
+ghost use Rattle.proof_build.specs.ProofUnwind.Spots.{nodes_of};
 ghost use Rattle.proof_build.specs.Unwindings.{step_of, back_of, steps_of};
 
+use crate::proof_unwind::Spot;
 use nwa_base::{Letter, Nwa};
 use proof_names::{NamedNode, NamedStep};
-use proof_unwind::Spot;
 use std::alloc::{AllocError, Global};
 
 /// Numbers as members of lists are numbered.

@@ -2,14 +2,14 @@
 
 ghost use Rattle.std.specs.Prelude.{[], ◌∷◌, IfOk, map};
 ghost use Rattle.triple_rows.specs.declared.triples.Triple.TheVariants as triples;
-ghost use Rattle.proof_spell.specs.Drafts.{plain};
-ghost use Rattle.proof_build.specs.Listing.{AreItsNumbers, IsFirst, AreNumbersOf, AreNeededOnce, Shows, AreTriplesOf};
+ghost use Rattle.proof_names.specs.ProofSpell.Drafts.{plain};
+ghost use Rattle.proof_build.specs.Ties.Listing.{AreItsNumbers, IsFirst, AreNumbersOf, AreNeededOnce, Shows, AreTriplesOf};
 
 use crate::noted::Noted;
 use crate::numbers::number_of;
 use itp_automaton::{Certified, Predicates};
 use proof_names::Listed;
-use proof_spell::Shown;
+use proof_names::proof_spell::Shown;
 use std::alloc::{AllocError, Global};
 use triple_rows::{Proof, Scoped, Triple};
 

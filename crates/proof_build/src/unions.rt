@@ -4,7 +4,7 @@ ghost use Rattle.std.specs.Prelude.{◌≡◌, ◌≢◌, ℕ, ◌+◌, ◌<◌,
 ghost use Rattle.std.specs.List.{AllByRecursion, filter_map};
 ghost use Rattle.nwa_base.specs.declared.letters.Kind.TheVariants.{Inside, Call, Back};
 ghost use Rattle.proof_build.specs.Numbering.{number_at};
-ghost use Rattle.proof_build.specs.Unions.{numbered, numbered_back, with_edges, IsUnionOf};
+ghost use Rattle.proof_build.specs.Ties.Unions.{numbered, numbered_back, with_edges, IsUnionOf};
 
 use crate::numbers::{at, numbers_of};
 use itp_automaton::{Certified, Predicates};

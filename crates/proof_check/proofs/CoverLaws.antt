@@ -11,8 +11,8 @@ use Rattle.letter_acts.specs.Invariant.{Graph}
 use Rattle.proof_names.specs.declared.outlines.NamedStep.TheVariants as steps
 use Rattle.proof_names.specs.Outlines.{OutlineNode, Sketch}
 use Rattle.proof_check.specs.Steps.{IsNode, HasStepTo, BacksTo, HasSteps, HasBacks}
-use Rattle.proof_check.specs.Plans.{HasPred}
-use Rattle.proof_check.specs.Covering.{HasStepsAlong, HasBacksAlong, HasBacksFrom}
+use Rattle.proof_check.specs.Ties.Plans.{HasPred}
+use Rattle.proof_check.specs.Ties.Covering.{HasStepsAlong, HasBacksAlong, HasBacksFrom}
 use Rattle.proof_check.specs.Checks.{IsCovered}
 
 -- ---- steps

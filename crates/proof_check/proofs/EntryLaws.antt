@@ -13,7 +13,7 @@ use Rattle.proof_names.specs.declared.outlines.NamedStep.{NamedStep}
 use Rattle.proof_names.specs.declared.outlines.NamedStep.TheVariants as steps
 use Rattle.proof_names.specs.Outlines.{OutlineNode, Sketch}
 use Rattle.proof_check.specs.Steps.{HasStepTo, BacksTo}
-use Rattle.proof_check.specs.Plans.{AreGroups, IsTest, InsideSource, CallSource, BackSource, Entering, Stepped, Landed, BackLanded}
+use Rattle.proof_check.specs.Ties.Plans.{AreGroups, IsTest, InsideSource, CallSource, BackSource, Entering, Stepped, Landed, BackLanded}
 use Rattle.proof_check.proofs.IndexLaws.{Enters, HasGroups, HasKeys, TellsKeys}
 
 -- ---- keys of numbers

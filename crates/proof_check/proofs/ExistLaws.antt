@@ -13,8 +13,8 @@ use Rattle.proof_names.specs.Naming.{IsNodeIn, StepIsIn, ReturnIsIn, BackIsIn, I
 use Rattle.proof_names.specs.Items.{Names, place_at}
 use Rattle.proof_names.specs.Numbers.{short_in}
 use Rattle.proof_names.specs.Outlines.{Sketch}
-use Rattle.proof_check.specs.Covering.{AllExist}
-use Rattle.proof_check.specs.Sound.{StepExists}
+use Rattle.proof_check.specs.Ties.Covering.{AllExist}
+use Rattle.proof_check.specs.Ties.Sound.{StepExists}
 use Rattle.proof_check.proofs.ListLaws.{place_of}
 
 -- a node whose place is known has a line

@@ -6,7 +6,7 @@ use Rattle.triple_rows.proofs.ListLaws.{within, got_map}
 use Rattle.proof_names.specs.declared.outlines.NamedNode.{NamedNode}
 use Rattle.proof_names.specs.Outlines.{node}
 use Rattle.proof_names.proofs.PairLaws.{is_got}
-use Rattle.proof_check.specs.Firsts.{HasAt}
+use Rattle.proof_check.specs.Ties.Firsts.{HasAt}
 
 pub has_here : {X : Type 0} (P : ℕ → X → Type 0) (xs : List X) (n : ℕ) (x : X) → slice_get xs n ≡ Some x → P n x → HasAt P xs n
 has_here P xs n x e p y f = let c : x ≡ y = cc in subst (λ z. P n z) c p

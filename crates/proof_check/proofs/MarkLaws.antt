@@ -7,7 +7,7 @@ use Rattle.nwa_base.proofs.MemberLemmas.{member_front, member_rest, member_split
 use Rattle.letter_acts.proofs.ListLemmas.{below_or_from}
 use Rattle.triple_rows.proofs.ListLaws.{within}
 use Rattle.proof_names.specs.Outlines.{OutlineNode}
-use Rattle.proof_check.specs.Plans.{IsTest, Marked, MarksAll, HasPred}
+use Rattle.proof_check.specs.Ties.Plans.{IsTest, Marked, MarksAll, HasPred}
 use Rattle.proof_check.proofs.IndexLaws.{TellsKeys, GainsKey, either_key, key_here, key_there, next_taken}
 
 pub marks_on : (test : ℕ × ℕ → ℕ × ℕ → Bool) (old mid new : ℕ × ℕ → Bool) (n i p : ℕ) (preds : List ℕ) → TellsKeys test → MarksAll old n (take i preds) mid →

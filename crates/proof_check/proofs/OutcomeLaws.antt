@@ -8,7 +8,7 @@ use Rattle.proof_check.specs.declared.rejects.Reject.{Reject}
 use Rattle.proof_check.specs.declared.rejects.Reject.TheVariants.{At, Memory}
 use Rattle.proof_check.specs.declared.rejects.RejectCause.{RejectCause}
 use Rattle.proof_check.specs.declared.rejects.RejectCause.TheVariants.{BadTriple, NoStart, OpenError, MissingStep, BadStep, BadName}
-use Rattle.proof_check.specs.Firsts.{IsFirstOf}
+use Rattle.proof_check.specs.Ties.Firsts.{IsFirstOf}
 use Rattle.proof_check.specs.Checks.{PassesIn, turn, IsRefusal, IsOutcome, AreOutcomes}
 
 -- ---- from places to items

@@ -11,8 +11,8 @@ use Rattle.triple_rows.proofs.ListLaws.{something_at}
 use Rattle.proof_names.specs.declared.outlines.NamedStep.TheVariants as steps
 use Rattle.proof_names.specs.Outlines.{OutlineNode, Sketch}
 use Rattle.proof_check.specs.Steps.{IsNode, IsOf, InsideIsSound, CallIsSound, BackIsSound, StepIsSound, ReturnIsSound}
-use Rattle.proof_check.specs.Plans.{IsOfNode}
-use Rattle.proof_check.specs.Sound.{InsideIsShown, CallIsShown, BackIsShown, InsideIsSoundAt, CallIsSoundAt, BackIsSoundAt, StepIsSoundAt, ReturnIsSoundAt}
+use Rattle.proof_check.specs.Ties.Plans.{IsOfNode}
+use Rattle.proof_check.specs.Ties.Sound.{InsideIsShown, CallIsShown, BackIsShown, InsideIsSoundAt, CallIsSoundAt, BackIsSoundAt, StepIsSoundAt, ReturnIsSoundAt}
 
 of_node : (nodes : List OutlineNode) (q n : ℕ) (x : OutlineNode) → slice_get nodes n ≡ Some x → IsOfNode nodes q n → IsOf q x
 of_node nodes q n x e (inl z) = inl z

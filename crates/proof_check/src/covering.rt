@@ -5,9 +5,9 @@ ghost use Rattle.nwa_base.specs.Members.{Member};
 ghost use Rattle.nwa_base.specs.Edges.{backs_between};
 ghost use Rattle.proof_names.specs.Outlines.{OutlineNode};
 ghost use Rattle.proof_check.specs.Steps.{IsNode, HasSteps, HasBacks};
-ghost use Rattle.proof_check.specs.Covering.{HasStepsAlong, HasBacksAlong, HasBacksFrom, AllExist};
+ghost use Rattle.proof_check.specs.Ties.Covering.{HasStepsAlong, HasBacksAlong, HasBacksFrom, AllExist};
 ghost use Rattle.proof_check.specs.Checks.{IsCovered};
-ghost use Rattle.proof_check.specs.Firsts.{IsFirstOf};
+ghost use Rattle.proof_check.specs.Ties.Firsts.{IsFirstOf};
 
 use crate::plan::Plan;
 use letter_acts::Icfg;

@@ -7,7 +7,7 @@ ghost use Rattle.std.specs.HashSet.{contains};
 ghost use Rattle.nwa_base.specs.Groups.{grouped};
 ghost use Rattle.proof_names.specs.declared.outlines.NamedTriple.{NamedTriple};
 ghost use Rattle.proof_names.specs.Outlines.{node};
-ghost use Rattle.proof_check.specs.Plans.{AreGroups, IsTest, InsideSource, CallSource, BackSource, Entering, Marked, MarksAll, Stepped, Landed, BackLanded};
+ghost use Rattle.proof_check.specs.Ties.Plans.{AreGroups, IsTest, InsideSource, CallSource, BackSource, Entering, Marked, MarksAll, Stepped, Landed, BackLanded};
 
 use nwa_base::Groups;
 use proof_names::{Listed, NamedNode, NamedStep, NamedTriple};

@@ -4,7 +4,7 @@ ghost use Rattle.std.specs.Prelude.{◌≡◌, ◌↔◌, [], map, IsTrue};
 ghost use Rattle.nwa_base.specs.Members.{Member};
 ghost use Rattle.proof_names.specs.Outlines.{node};
 ghost use Rattle.proof_check.specs.Proves.{IsStart, HasStartIn, ErrorIsFalse};
-ghost use Rattle.proof_check.specs.Firsts.{IsFirstOf};
+ghost use Rattle.proof_check.specs.Ties.Firsts.{IsFirstOf};
 
 use nwa_base::Nwa;
 use proof_names::NamedNode;

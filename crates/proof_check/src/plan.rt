@@ -45,7 +45,7 @@ impl Sources {
     ghost use Rattle.std.specs.Prelude.{IfOk};
     ghost use Rattle.std.specs.HashMap.{get};
     ghost use Rattle.nwa_base.specs.Groups.{grouped};
-    ghost use Rattle.proof_check.specs.Plans.{AreGroups, InsideSource, CallSource, BackSource};
+    ghost use Rattle.proof_check.specs.Ties.Plans.{AreGroups, InsideSource, CallSource, BackSource};
 
     /// Those of these triples.
     fn new(alloc: Global, triples: &[NamedTriple]) -> Result<Sources, AllocError>
@@ -68,7 +68,7 @@ impl Moves {
     ghost use Rattle.nwa_base.specs.Groups.{grouped};
     ghost use Rattle.proof_names.specs.declared.outlines.NamedTriple.{NamedTriple};
     ghost use Rattle.proof_names.specs.Outlines.{node};
-    ghost use Rattle.proof_check.specs.Plans.{AreGroups, IsTest, Entering, Stepped, Landed, BackLanded};
+    ghost use Rattle.proof_check.specs.Ties.Plans.{AreGroups, IsTest, Entering, Stepped, Landed, BackLanded};
 
     /// Those of these steps and backs between the nodes.
     fn new(alloc: Global, nodes: &[NamedNode], steps: &[NamedStep]) -> Result<Moves, AllocError>
@@ -93,7 +93,7 @@ impl<'a> Model for Plan<'a> {
     ghost use Rattle.std.specs.HashSet.{contains};
     ghost use Rattle.nwa_base.specs.Groups.{grouped};
     ghost use Rattle.proof_names.specs.Outlines.{Sketch, sketch};
-    ghost use Rattle.proof_check.specs.Plans.{IsPlan};
+    ghost use Rattle.proof_check.specs.Ties.Plans.{IsPlan};
 
     ghost Value = { Sketch };
 
@@ -117,7 +117,7 @@ impl<'a> Plan<'a> {
     ghost use Rattle.proof_names.specs.declared.outlines.NamedStep.TheVariants.{Step};
     ghost use Rattle.proof_names.specs.Outlines.{node, sketch};
     ghost use Rattle.proof_check.specs.Steps.{Lists, HasStepTo, BacksTo};
-    ghost use Rattle.proof_check.specs.Plans.{HasPred, IsOfNode};
+    ghost use Rattle.proof_check.specs.Ties.Plans.{HasPred, IsOfNode};
 
     /// What the outline has.
     pub(crate) fn new(alloc: Global, outline: &'a Outline) -> Result<Plan<'a>, AllocError>

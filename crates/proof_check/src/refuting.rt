@@ -5,7 +5,7 @@ ghost use Rattle.letter_acts.specs.Invariant.{alphabet_of};
 ghost use Rattle.triple_rows.specs.Triples.{Agrees, IsRefuted};
 ghost use Rattle.proof_names.specs.declared.outlines.NamedTriple.{NamedTriple};
 ghost use Rattle.proof_check.specs.Proves.{IsShown};
-ghost use Rattle.proof_check.specs.Firsts.{IsFirstOf};
+ghost use Rattle.proof_check.specs.Ties.Firsts.{IsFirstOf};
 
 use farkas_check::{Refutation, check};
 use letter_acts::Icfg;

@@ -4,10 +4,10 @@ ghost use Rattle.std.specs.Prelude.{◌↔◌, ◌<◌, length, IsTrue};
 ghost use Rattle.nwa_base.specs.declared.letters.Kind.TheVariants as kinds;
 ghost use Rattle.nwa_base.specs.Members.{Member};
 ghost use Rattle.proof_check.specs.Steps.{IsSound};
-ghost use Rattle.proof_check.specs.Sound.{InsideGives, CallGives, BackGives, InsideIsShown, CallIsShown, BackIsShown, StepExists, InsideIsSoundAt, CallIsSoundAt, BackIsSoundAt, StepIsSoundAt, ReturnIsSoundAt};
-ghost use Rattle.proof_check.specs.Covering.{AllExist};
-ghost use Rattle.proof_check.specs.Plans.{IsOfNode};
-ghost use Rattle.proof_check.specs.Firsts.{IsFirstOf};
+ghost use Rattle.proof_check.specs.Ties.Sound.{InsideGives, CallGives, BackGives, InsideIsShown, CallIsShown, BackIsShown, StepExists, InsideIsSoundAt, CallIsSoundAt, BackIsSoundAt, StepIsSoundAt, ReturnIsSoundAt};
+ghost use Rattle.proof_check.specs.Ties.Covering.{AllExist};
+ghost use Rattle.proof_check.specs.Ties.Plans.{IsOfNode};
+ghost use Rattle.proof_check.specs.Ties.Firsts.{IsFirstOf};
 
 use crate::plan::Plan;
 use letter_acts::{Act, Icfg};

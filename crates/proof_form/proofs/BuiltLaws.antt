@@ -5,7 +5,7 @@ use Rattle.std.proofs.lemmas.List.{map-append, length-reverse}
 use Rattle.proof_form.specs.declared.trees.Piece.{Piece}
 use Rattle.proof_form.specs.Outcomes.{◌>>=◌}
 use Rattle.proof_form.specs.TreeReading.{Part, Built, with_part, built_on, whole, nodes_of}
-use Rattle.proof_form.specs.TreeViews.{part, built}
+use Rattle.proof_form.specs.Ties.TreeViews.{part, built}
 
 -- Putting together the pieces so far, from what was put together of the others, is putting together all.
 pub record Reached {X : Type 0} (set : X → ℕ → Option X) (left : List (Part X)) (b : Built X) (all : List (Part X)) : Type 0 where

@@ -5,7 +5,7 @@ use Rattle.std.specs.Option.{option_to_list}
 use Rattle.std.proofs.lemmas.Bool.{eqb-true, leb-true}
 use Rattle.std.proofs.lemmas.List.{append-nil, drop_more, drop_all, reverse-append, take_all}
 use Rattle.proof_form.specs.Trees.{tree_count, have_parts, is_tree, with_node, texts, tree_text}
-use Rattle.proof_form.specs.TreeWriting.{total, closing}
+use Rattle.proof_form.specs.Ties.TreeWriting.{total, closing}
 use Rattle.proof_form.proofs.RunLaws.{both_hold}
 use Rattle.proof_form.proofs.TreeLaws.{closing_node, texts_counted}
 

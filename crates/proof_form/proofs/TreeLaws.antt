@@ -7,7 +7,7 @@ use Rattle.std.proofs.lemmas.Option.{cond_some, same_Some}
 use Rattle.proof_form.specs.Outcomes.{◌>>=◌}
 use Rattle.proof_form.specs.Trees.{tree_count, have_parts, is_tree, with_node, texts, tree_text}
 use Rattle.proof_form.specs.TreeReading.{Part, opens, closes, part_text, Built, opened, with_node_of, with_part, built_on, whole, nodes_of}
-use Rattle.proof_form.specs.TreeWriting.{total, closing}
+use Rattle.proof_form.specs.Ties.TreeWriting.{total, closing}
 use Rattle.proof_form.proofs.AfterLaws.{bind_some}
 use Rattle.proof_form.proofs.RunLaws.{both_hold}
 

@@ -15,8 +15,6 @@ pub mod Refutations
 pub mod Standing
 pub mod TextOutcomes
 pub mod TextReading
-pub mod TextViews
 pub mod TreeReading
-pub mod TreeViews
-pub mod TreeWriting
 pub mod Trees
+pub mod Ties

@@ -4,7 +4,7 @@ ghost use Rattle.std.specs.Prelude.{◌≡◌, ◌++◌, map, reverse, OnOk, IsT
 ghost use Rattle.std.specs.List.{list_all, flat_map};
 ghost use Rattle.proof_form.specs.Outcomes.{Gives};
 ghost use Rattle.proof_form.specs.TreeReading.{with_part, nodes_of};
-ghost use Rattle.proof_form.specs.TreeViews.{part, built};
+ghost use Rattle.proof_form.specs.Ties.TreeViews.{part, built};
 ghost use Rattle.proof_form.specs.Trees.{is_tree};
 ghost use Rattle.proof_form.specs.Refutations as spec;
 ghost use Rattle.proof_form.specs.RefutationReading as reading;

@@ -3,7 +3,7 @@
 ghost use Rattle.std.specs.Prelude.{◌≡◌, ◌<◌, ◌^◌, ℕ};
 ghost use Rattle.std.specs.Fmt.{decimal};
 ghost use Rattle.proof_form.specs.TextReading as spec;
-ghost use Rattle.proof_form.specs.TextViews.{seen_line};
+ghost use Rattle.proof_form.specs.Ties.TextViews.{seen_line};
 
 use crate::lines::push_decimal;
 use crate::refusal::Refusal;

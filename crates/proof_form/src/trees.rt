@@ -3,7 +3,7 @@
 ghost use Rattle.std.specs.Prelude.{◌≡◌, [], ◌∷◌, ◌++◌, IfOk, List, ℕ, reverse};
 ghost use Rattle.proof_form.specs.Outcomes.{Gives};
 ghost use Rattle.proof_form.specs.TreeReading.{opened};
-ghost use Rattle.proof_form.specs.TreeWriting.{total, closing};
+ghost use Rattle.proof_form.specs.Ties.TreeWriting.{total, closing};
 
 use crate::refusal::Refusal;
 use std::alloc::AllocError;

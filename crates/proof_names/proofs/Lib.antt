@@ -13,3 +13,5 @@ pub mod OnceLaws
 mod SoFarLaws
 pub mod ItemLaws
 pub mod OutlineLaws
+pub mod CoarseLines
+pub mod ProofSpell

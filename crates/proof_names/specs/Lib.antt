@@ -8,3 +8,5 @@ pub mod Outlines
 pub mod Scopes
 pub mod Naming
 pub mod Items
+pub mod CoarseLines
+pub mod ProofSpell

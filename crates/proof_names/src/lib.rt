@@ -2,6 +2,7 @@
 //! names. The first line that names what does not exist, or what is of another scope, is told apart.
 #![tactic(auto)]
 
+pub mod coarse_lines;
 mod columns;
 mod fault;
 pub mod laws;
@@ -10,6 +11,7 @@ mod nodes;
 mod numbers;
 mod outlines;
 mod predicates;
+pub mod proof_spell;
 mod refutations;
 mod steps;
 mod triples;

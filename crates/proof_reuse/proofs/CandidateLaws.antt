@@ -19,8 +19,8 @@ use Rattle.itp_automaton.proofs.StateLaws.{member_at, place_of}
 use Rattle.itp_automaton.specs.Making.{IsStateFor}
 use Rattle.proof_reuse.specs.Found.{pred_found, found_at}
 use Rattle.proof_reuse.specs.Candidates.{meant, StandsFor, MayStandFor, IsTruthOf}
-use Rattle.proof_reuse.specs.Numbers.{IsNumbered, AreFound, renumbered, number_of, inside_pair, call_pair, back_three, three_of}
-use Rattle.proof_reuse.specs.Choices.{numbers_in, pair_choices, three_choices}
+use Rattle.proof_reuse.specs.Ties.Numbers.{IsNumbered, AreFound, renumbered, number_of, inside_pair, call_pair, back_three, three_of}
+use Rattle.proof_reuse.specs.Ties.Choices.{numbers_in, pair_choices, three_choices}
 use Rattle.proof_reuse.proofs.ChoiceLaws.{here_listed, listed_here, in_there, ComesFrom, IsPairChoice, pair_chosen, pair_there, IsThreeChoice, three_chosen, three_there}
 
 -- ---- numbers

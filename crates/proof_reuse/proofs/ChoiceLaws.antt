@@ -9,7 +9,7 @@ use Rattle.nwa_base.proofs.MemberLemmas.{member_front, member_rest, member_split
 use Rattle.triple_rows.specs.declared.triples.Scoped.{Scoped}
 use Rattle.proof_names.specs.Naming.{scoped_at}
 use Rattle.itp_automaton.proofs.StateLaws.{member_at}
-use Rattle.proof_reuse.specs.Choices.{is_of, is_in, numbers_from, numbers_in, sources, pair_sources, pair_fits, pair_choices, three_sources, three_fits, three_choices}
+use Rattle.proof_reuse.specs.Ties.Choices.{is_of, is_in, numbers_from, numbers_in, sources, pair_sources, pair_fits, pair_choices, three_sources, three_fits, three_choices}
 
 -- ---- the numbers of a procedure
 

@@ -11,7 +11,7 @@ use Rattle.proof_form.specs.declared.lines.PredLine.{PredLine}
 use Rattle.proof_form.specs.Lines as form
 use Rattle.itp_automaton.proofs.StateLaws.{member_at, place_of}
 use Rattle.proof_reuse.specs.Found.{pred_found}
-use Rattle.proof_reuse.specs.Numbers.{IsNumbered, AreFound, IsPut, AddsFound}
+use Rattle.proof_reuse.specs.Ties.Numbers.{IsNumbered, AreFound, IsPut, AddsFound}
 
 -- ---- one predicate
 

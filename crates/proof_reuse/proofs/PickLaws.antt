@@ -13,7 +13,7 @@ use Rattle.triple_rows.specs.Triples.{Agrees}
 use Rattle.proof_names.specs.declared.outlines.Listed.{Listed}
 use Rattle.proof_names.specs.Naming.{triple_at}
 use Rattle.proof_names.specs.Scopes.{call_scopes}
-use Rattle.proof_reuse.specs.Choices.{Taken, three_choices, back_listed, return_choices, act_choices, choices_by, IsPicked, ArePicked}
+use Rattle.proof_reuse.specs.Ties.Choices.{Taken, three_choices, back_listed, return_choices, act_choices, choices_by, IsPicked, ArePicked}
 use Rattle.proof_reuse.proofs.SetLaws.{same_along, same_start}
 use Rattle.proof_reuse.proofs.ChoiceLaws.{image_there, origin_of}
 

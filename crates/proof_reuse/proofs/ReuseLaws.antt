@@ -27,9 +27,9 @@ use Rattle.itp_automaton.proofs.EdgeLaws.{place_below}
 use Rattle.itp_automaton.proofs.StateLaws.{place_of}
 use Rattle.proof_reuse.specs.Found.{found_preds}
 use Rattle.proof_reuse.specs.Candidates.{MayStandFor, StandsFor, IsTruthOf, RenewsLine, IsTrueThroughout, KeepsFalse, BeginsTrue, IsCandidate}
-use Rattle.proof_reuse.specs.Choices.{Taken, IsTakenFrom, numbers_in, pair_choices, begun_pairs, call_pair_choices, three_choices, inside_listed, call_listed, back_listed, act_choices, return_choices, choices_by, IsPicked, ArePicked, AreCandidatesBy}
-use Rattle.proof_reuse.specs.Numbers.{AreFound}
-use Rattle.proof_reuse.specs.Settling.{IsSettling}
+use Rattle.proof_reuse.specs.Ties.Choices.{Taken, IsTakenFrom, numbers_in, pair_choices, begun_pairs, call_pair_choices, three_choices, inside_listed, call_listed, back_listed, act_choices, return_choices, choices_by, IsPicked, ArePicked, AreCandidatesBy}
+use Rattle.proof_reuse.specs.Ties.Numbers.{AreFound}
+use Rattle.proof_reuse.specs.Ties.Settling.{IsSettling}
 use Rattle.proof_reuse.proofs.ChoiceLaws.{here_listed, listed_here, image_there, origin_of}
 use Rattle.proof_reuse.proofs.CandidateLaws.{source_state, target_state, IsTriedPair, pair_tried, tried_pair, IsTriedThree, three_tried, tried_three, InsideLine, CallLine, BackLine, inside_line, line_inside, call_line, line_call, back_line, line_back}
 

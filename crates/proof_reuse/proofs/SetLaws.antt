@@ -9,7 +9,7 @@ use Rattle.nwa_base.specs.Members.{Member, SameMembers}
 use Rattle.nwa_base.proofs.LetterLemmas.{and_left, and_right, and_both}
 use Rattle.nwa_base.proofs.MemberLemmas.{member_front, member_rest, member_split}
 use Rattle.nwa_difference.proofs.PairLemmas.{IsTest, key_added}
-use Rattle.proof_reuse.specs.Sets.{Inserts, InsertsAll}
+use Rattle.proof_reuse.specs.Ties.Sets.{Inserts, InsertsAll}
 
 -- ---- one key more
 

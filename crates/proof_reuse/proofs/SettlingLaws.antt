@@ -16,8 +16,8 @@ use Rattle.itp_automaton.proofs.StateLaws.{below_or_last}
 use Rattle.itp_automaton.proofs.SettlingLaws.{settled_later, all_later, all_append}
 use Rattle.itp_automaton.proofs.BuiltLaws.{all_member}
 use Rattle.proof_reuse.specs.Candidates.{IsCandidate}
-use Rattle.proof_reuse.specs.Choices.{AreCandidatesBy}
-use Rattle.proof_reuse.specs.Settling.{IsSettling}
+use Rattle.proof_reuse.specs.Ties.Choices.{AreCandidatesBy}
+use Rattle.proof_reuse.specs.Ties.Settling.{IsSettling}
 
 -- ---- the answers that are proofs
 

@@ -3,7 +3,7 @@
 ghost use Rattle.std.specs.Prelude.{◌≡◌, [], ◌∷◌, map, IfOk};
 ghost use Rattle.std.specs.List.{flat_map};
 ghost use Rattle.nwa_base.specs.Members.{SameMembers};
-ghost use Rattle.proof_reuse.specs.Choices as spec;
+ghost use Rattle.proof_reuse.specs.Ties.Choices as spec;
 
 use crate::limits::bounded;
 use crate::sets::{add_pair, add_pairs, add_three, add_threes};

@@ -3,7 +3,7 @@
 ghost use Rattle.std.specs.Prelude.{◌≡◌, map, suc, IfOk, OnOk, IsTrue};
 ghost use Rattle.std.specs.List.{list_all};
 ghost use Rattle.proof_form.specs.Lines as form;
-ghost use Rattle.proof_reuse.specs.Numbers.{AddsFound, AreFound, IsPut};
+ghost use Rattle.proof_reuse.specs.Ties.Numbers.{AddsFound, AreFound, IsPut};
 
 use crate::finding::pred_found;
 use crate::limits::MOST_PREDICATES;

@@ -4,7 +4,7 @@ ghost use Rattle.std.specs.Prelude.{IfOk, map};
 ghost use Rattle.std.specs.List.{filter_map};
 ghost use Rattle.nwa_base.specs.Members.{SameMembers};
 ghost use Rattle.proof_form.specs.Lines as form;
-ghost use Rattle.proof_reuse.specs.Numbers as spec;
+ghost use Rattle.proof_reuse.specs.Ties.Numbers as spec;
 
 use crate::numbers::{back_three, call_pair, inside_pair};
 use crate::sets::{add_pair, add_three};

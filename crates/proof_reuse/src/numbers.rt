@@ -2,7 +2,7 @@
 
 ghost use Rattle.std.specs.Prelude.{◌≡◌};
 ghost use Rattle.proof_form.specs.Lines as form;
-ghost use Rattle.proof_reuse.specs.Numbers as spec;
+ghost use Rattle.proof_reuse.specs.Ties.Numbers as spec;
 
 use proof_form::{Numeral, TripleLine};
 use proof_names::index_in;

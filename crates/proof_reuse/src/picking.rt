@@ -8,9 +8,9 @@ ghost use Rattle.triple_rows.specs.declared.triples.Triple.{Triple};
 ghost use Rattle.triple_rows.specs.Triples.{Agrees};
 ghost use Rattle.proof_form.specs.Annotations.{Content};
 ghost use Rattle.proof_names.specs.Scopes.{call_scopes};
-ghost use Rattle.proof_reuse.specs.Choices as spec;
-ghost use Rattle.proof_reuse.specs.Choices.{IsPicked, ArePicked, AreCandidatesBy, IsTakenFrom};
-ghost use Rattle.proof_reuse.specs.Views.{taken};
+ghost use Rattle.proof_reuse.specs.Ties.Choices as spec;
+ghost use Rattle.proof_reuse.specs.Ties.Choices.{IsPicked, ArePicked, AreCandidatesBy, IsTakenFrom};
+ghost use Rattle.proof_reuse.specs.Ties.Views.{taken};
 
 use crate::choosing::{call_pair_choices, pair_choices, three_choices};
 use crate::taking::Earlier;

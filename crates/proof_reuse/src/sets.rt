@@ -1,7 +1,7 @@
 //! Numbers of predicates that are put into sets.
 
 ghost use Rattle.std.specs.Prelude.{OnOk};
-ghost use Rattle.proof_reuse.specs.Sets.{Inserts, InsertsAll};
+ghost use Rattle.proof_reuse.specs.Ties.Sets.{Inserts, InsertsAll};
 
 use indexmap::IndexSet;
 use std::alloc::AllocError;

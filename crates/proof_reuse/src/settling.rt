@@ -5,9 +5,9 @@ ghost use Rattle.std.specs.List.{AllByRecursion, filter_map};
 ghost use Rattle.letter_acts.specs.Invariant.{alphabet_of};
 ghost use Rattle.triple_rows.specs.Triples.{Agrees};
 ghost use Rattle.proof_form.specs.Annotations.{Content};
-ghost use Rattle.proof_reuse.specs.Choices.{IsTakenFrom};
-ghost use Rattle.proof_reuse.specs.Settling.{IsSettling};
-ghost use Rattle.proof_reuse.specs.Views.{taken};
+ghost use Rattle.proof_reuse.specs.Ties.Choices.{IsTakenFrom};
+ghost use Rattle.proof_reuse.specs.Ties.Settling.{IsSettling};
+ghost use Rattle.proof_reuse.specs.Ties.Views.{taken};
 
 use crate::limits::{MOST_CANDIDATES, left_of};
 use crate::picking::candidates_by;

@@ -1,8 +1,8 @@
 //! What is taken from an earlier annotation.
 
 ghost use Rattle.std.specs.Prelude.{IfOk};
-ghost use Rattle.proof_reuse.specs.Choices.{IsTakenFrom};
-ghost use Rattle.proof_reuse.specs.Views.{taken};
+ghost use Rattle.proof_reuse.specs.Ties.Choices.{IsTakenFrom};
+ghost use Rattle.proof_reuse.specs.Ties.Views.{taken};
 
 use crate::founds::{Founds, founds_of};
 use crate::lines::{back_threes, call_pairs, inside_pairs};

@@ -3,8 +3,8 @@ use Rattle.std.proofs.Common.{◌≡◌, ◌∙◌, ℕ, ◌+◌, ◌-◌, ◌<�
 use Rattle.std.proofs.lemmas.List.{append_assoc, drop_more, take_rest}
 use Rattle.nwa_base.specs.declared.letters.Letter.{Letter}
 use Rattle.nwa_base.specs.declared.letters.Kind.TheVariants.{Inside}
-use Rattle.nested_predicates.specs.Positions.{has_return}
-use Rattle.nested_predicates.specs.Walking.{return_tests}
+use Rattle.nested_itp.specs.NestedPredicates.Positions.{has_return}
+use Rattle.nested_itp.specs.NestedPredicates.Walking.{return_tests}
 
 pub tests_next : (w : List Letter) (i : ℕ) (now new : List Bool) (t : Bool) → i < length w → t ≡ has_return 0 (take (length w - (i + 1)) (drop (i + 1) w)) → new ≡ now ++ t ∷ [] →
     now ++ return_tests (drop i w) ≡ return_tests w → new ++ return_tests (drop (i + 1) w) ≡ return_tests w

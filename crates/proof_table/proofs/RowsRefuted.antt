@@ -8,7 +8,7 @@ use Rattle.lin_rows.specs.Tightening.{tightened}
 use Rattle.lin_rows.specs.Systems.{rows_of, groups_of}
 use Rattle.farkas_check.specs.Nodes.{PlainNode}
 use Rattle.farkas_check.specs.Refutes.{Goal, Refute, Refutes, goal_of}
-use Rattle.nested_predicates.specs.Interpolants.{RefutesRows}
+use Rattle.nested_itp.specs.NestedPredicates.Interpolants.{RefutesRows}
 
 same_goal : (s : System) (rows : List LinearRow) → rows_of s ≡ rows → groups_of s ≡ [] → goal_of s ≡ record { rows = map tightened rows; groups = [] }
 same_goal s rows a b = cc

@@ -4,7 +4,7 @@ use Rattle.std.proofs.lemmas.List.{length-append, length-map}
 use Rattle.farkas_check.specs.declared.refutations.Node.{Node}
 use Rattle.farkas_check.specs.Nodes.{PlainNode, plain, plain_nodes}
 use Rattle.farkas_check.specs.Trees.{Tree, Trees, leaf_tree, cut_tree, cases_tree, no_tree, one_more, prefix_of, prefixes_of, cuts_on_branch, most_cuts}
-use Rattle.nested_predicates.specs.Interpolants.{HasCutsUpTo}
+use Rattle.nested_itp.specs.NestedPredicates.Interpolants.{HasCutsUpTo}
 
 mutual
   twice_cuts : (t : Tree) → suc (cuts_on_branch t + cuts_on_branch t) ≤ length (prefix_of t)

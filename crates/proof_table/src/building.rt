@@ -1,7 +1,7 @@
 //! The automata that are built of the predicates along words.
 
 ghost use Rattle.path_rows.specs.Paths.{IsPathOf};
-ghost use Rattle.nested_predicates.specs.Interpolants.{RefutesRows, HasCutsUpTo};
+ghost use Rattle.nested_itp.specs.NestedPredicates.Interpolants.{RefutesRows, HasCutsUpTo};
 ghost use Rattle.itp_automaton.specs.Words.{AreAlong};
 
 use crate::automata::{show_accepted_by, show_edge_by};

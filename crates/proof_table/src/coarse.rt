@@ -1,9 +1,9 @@
 //! The lines of coarse letters, and the letters that triples name.
 
 use crate::rows::{put, put_line, put_nothing, put_number};
-use coarse_lines::{CoarseFault, coarse_letters, compared};
 use letter_acts::Icfg;
 use proof_form::{Annotation, read_safe};
+use proof_names::coarse_lines::{CoarseFault, coarse_letters, compared};
 
 /// Prints the coarse letters that triples name.
 fn show_letters(rt: &HostRuntime, graph: &Icfg, annotation: &Annotation) {

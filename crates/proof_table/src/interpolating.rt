@@ -1,7 +1,7 @@
 //! The predicates along words.
 
 ghost use Rattle.path_rows.specs.Paths.{IsPathOf};
-ghost use Rattle.nested_predicates.specs.Interpolants.{RefutesRows, HasCutsUpTo};
+ghost use Rattle.nested_itp.specs.NestedPredicates.Interpolants.{RefutesRows, HasCutsUpTo};
 
 use crate::refutations::{has_few_cuts, is_refuted, refutation};
 use crate::rows::{put, put_line, put_nothing, put_number, put_value, show_bound};

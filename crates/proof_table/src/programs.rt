@@ -1,13 +1,13 @@
 //! Programs.
 
 ghost use Rattle.boogie_tree.specs.View.{program as tree};
-ghost use Rattle.boogie_parse.specs.PrintedTokens.{IsSpellableProgram};
+ghost use Rattle.boogie_parse.specs.Spelling.PrintedTokens.{IsSpellableProgram};
 
 use boogie_parse::parse;
 use boogie_tree::Program;
 use boogie_types::resolve;
 use std::alloc::Global;
-use typing_rules::Typed;
+use typed_tree::typing_rules::Typed;
 
 /// The most bytes of a program.
 const MOST_BYTES: usize = 1_048_576;

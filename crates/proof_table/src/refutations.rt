@@ -1,7 +1,7 @@
 //! Refutations as texts.
 
 ghost use Rattle.std.specs.Prelude.{IsTrue, IfOk};
-ghost use Rattle.nested_predicates.specs.Interpolants.{RefutesRows, HasCutsUpTo};
+ghost use Rattle.nested_itp.specs.NestedPredicates.Interpolants.{RefutesRows, HasCutsUpTo};
 
 use crate::reading::{pair, pairs};
 use farkas_check::{Node, Refutation, check, tree};

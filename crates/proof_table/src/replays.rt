@@ -5,7 +5,7 @@ use crate::rows::{put_nothing, put_number};
 use std::alloc::{AllocError, Global};
 use table_reading::{parted, value};
 use trace_replay::{Choice, Trail, replay};
-use typing_rules::Typed;
+use typed_tree::typing_rules::Typed;
 
 fn choice(text: &str) -> Choice {
     Choice(value(text))

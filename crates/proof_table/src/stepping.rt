@@ -2,15 +2,15 @@
 
 ghost use Rattle.std.specs.Prelude.{◌≡◌, IfOk};
 ghost use Rattle.path_rows.specs.Paths.{IsPathOf};
-ghost use Rattle.nested_predicates.specs.Positions.{has_return};
-ghost use Rattle.nested_predicates.specs.Walking.{return_tests};
+ghost use Rattle.nested_itp.specs.NestedPredicates.Positions.{has_return};
+ghost use Rattle.nested_itp.specs.NestedPredicates.Walking.{return_tests};
 
 use crate::rows::{put, put_nothing, put_number, show_numbers};
 use letter_acts::Icfg;
+use nested_itp::triple_steps::{Section, Step, Tie, steps};
 use nwa_base::{Kind, Letter};
 use path_rows::PathSystem;
 use std::alloc::{AllocError, Global};
-use triple_steps::{Section, Step, Tie, steps};
 
 /// Whether a call before the letters has a return in them.
 fn has_return(letters: &[Letter]) -> bool

@@ -20,10 +20,10 @@ use Rattle.letter_acts.specs.Invariant.{Graph}
 use Rattle.letter_acts.proofs.ListLemmas.{all_append}
 use Rattle.path_rows.specs.Paths.{path_of}
 use Rattle.path_decide.specs.Decided.{tight_rows, path_decision}
-use Rattle.nested_predicates.specs.Stamps.{stamps_of}
-use Rattle.nested_refutations.specs.Numbers.{AreCutsAt}
+use Rattle.nested_itp.specs.NestedPredicates.Stamps.{stamps_of}
+use Rattle.nested_itp.specs.NestedRefutations.Numbers.{AreCutsAt}
 use Rattle.triple_rows.specs.Cuts.{IsCutWithin}
-use Rattle.triple_steps.proofs.StepLaws.{total_is}
+use Rattle.nested_itp.proofs.TripleSteps.StepLaws.{total_is}
 use Rattle.nested_itp.proofs.CutLaws.{tree_cuts}
 
 -- ---- a point of the elimination has a value for each column

@@ -12,7 +12,7 @@ use Rattle.lowered_graph.specs.Laws.{IsExactWord}
 use Rattle.nwa_emptiness.specs.declared.finding.Found.{Found}
 use Rattle.nwa_emptiness.specs.declared.finding.Found.TheVariants as founds
 use Rattle.nwa_emptiness.specs.Found.{IsFound}
-use Rattle.race_rounds.specs.Exact.{exact_part, IsExactFound}
+use Rattle.race_rounds.specs.Ties.Exact.{exact_part, IsExactFound}
 
 is_not : (b : Bool) → not b ≡ true → b ≡ false
 is_not true e = sym e

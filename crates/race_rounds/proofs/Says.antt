@@ -23,7 +23,7 @@ use Rattle.trace_replay.specs.declared.causes.ReplayFault.TheVariants.{At}
 use Rattle.race_core.specs.declared.ends.Cause.{Cause}
 use Rattle.race_core.specs.declared.ends.Cause.TheVariants.{Rounds, Whole, Number, Product}
 use Rattle.race_core.specs.declared.ends.End.TheVariants.{Unknown}
-use Rattle.nested_refutations.specs.Numbers.{NumbersFit}
+use Rattle.nested_itp.specs.NestedRefutations.Numbers.{NumbersFit}
 use Rattle.race_rounds.specs.declared.limits.Limits.{Limits}
 use Rattle.race_rounds.specs.Ends.{FailsAfter, PredicatesFit, NumberPasses, of_predicates, of_run, CauseMeets, SaysOfWord}
 use Rattle.race_rounds.specs.Rounds.{is_by_products}

@@ -3,7 +3,7 @@ use Rattle.std.proofs.Common.{◌≡◌, ◌≤◌, ◌+◌, ℕ, List, [], ◌�
 use Rattle.farkas_check.specs.Nodes.{PlainNode}
 use Rattle.farkas_check.specs.Trees.{Tree, Trees, leaf_tree, cut_tree, cases_tree, no_tree, one_more, tree_count, prefix_of, prefixes_of, cuts_on_branch}
 use Rattle.int_decide.specs.Worth as worth
-use Rattle.nested_predicates.specs.Interpolants.{HasCutsUpTo}
+use Rattle.nested_itp.specs.NestedPredicates.Interpolants.{HasCutsUpTo}
 
 mutual
   same_tree : (t u : Tree) (ns ms : List PlainNode) → prefix_of t ++ ns ≡ prefix_of u ++ ms → (t ≡ u) × (ns ≡ ms)

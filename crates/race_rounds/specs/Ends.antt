@@ -15,11 +15,11 @@ use Rattle.letter_acts.specs.Invariant.{Graph, alphabet_of}
 use Rattle.typed_tree.specs.TypedTree.{TypedProgram}
 use Rattle.lowered_graph.specs.Lowered.{lowered}
 use Rattle.lowered_graph.specs.Laws.{IsExactWord}
-use Rattle.nested_predicates.specs.Stamps.{stamps_of}
-use Rattle.nested_predicates.specs.Positions.{positions_of}
-use Rattle.nested_predicates.specs.Sums.{root_of}
-use Rattle.nested_predicates.specs.Fitting.{SumsFit}
-use Rattle.nested_refutations.specs.Numbers.{steps_of, StepNumbersFit}
+use Rattle.nested_itp.specs.NestedPredicates.Stamps.{stamps_of}
+use Rattle.nested_itp.specs.NestedPredicates.Positions.{positions_of}
+use Rattle.nested_itp.specs.NestedPredicates.Sums.{root_of}
+use Rattle.nested_itp.specs.NestedPredicates.Fitting.{SumsFit}
+use Rattle.nested_itp.specs.NestedRefutations.Numbers.{steps_of, StepNumbersFit}
 use Rattle.path_decide.specs.Decided.{RefutesPath, path_decision, PathFits, IsGap}
 use Rattle.path_rows.specs.Paths.{path_of}
 use Rattle.trace_replay.specs.Guesses.{FailsWith}

@@ -1,4 +1,5 @@
 pub mod Limits
 pub mod Ends
 pub mod Rounds
-pub mod Exact
+pub mod ConcreteWalks
+pub mod Ties

@@ -2,7 +2,7 @@
 
 ghost use Rattle.std.specs.Prelude.{◌≡◌, ◌++◌, IfOk, OnOk};
 ghost use Rattle.letter_acts.specs.Invariant.{mark_at};
-ghost use Rattle.race_rounds.specs.Exact.{exact_edges, exact_backs, exact_part, IsExactFound};
+ghost use Rattle.race_rounds.specs.Ties.Exact.{exact_edges, exact_backs, exact_part, IsExactFound};
 
 use letter_acts::Icfg;
 use nwa_base::{Letter, Nwa, NwaFault, empty};

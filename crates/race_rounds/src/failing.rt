@@ -7,7 +7,7 @@ ghost use Rattle.lin_rows.specs.Rows.{Holds};
 ghost use Rattle.nwa_base.specs.Acceptance.{Accepts};
 ghost use Rattle.letter_acts.specs.Feasible.{IsFeasible};
 ghost use Rattle.letter_acts.specs.Invariant.{alphabet_of};
-ghost use Rattle.typing_rules.specs.TypedParts.{typed_program};
+ghost use Rattle.typed_tree.specs.TypingRules.TypedParts.{typed_program};
 ghost use Rattle.lowered_graph.specs.Lowered.{lowered};
 ghost use Rattle.path_decide.specs.Decided.{IsWholePoint};
 ghost use Rattle.path_rows.specs.Paths.{IsPathOf};
@@ -27,7 +27,7 @@ use race_core::{Cause, End};
 use std::alloc::{AllocError, Global};
 use trace_replay::laws::fronts_fail_alone;
 use trace_replay::{ReplayCause, ReplayFault, choices_of, other_choices_of};
-use typing_rules::Typed;
+use typed_tree::typing_rules::Typed;
 
 /// The numbers of choices.
 fn numbers_of(alloc: Global, choices: &[Choice]) -> Result<Vec<i128>, AllocError>

@@ -4,6 +4,7 @@
 
 mod candidates;
 mod choosing;
+pub mod concrete_walks;
 mod deviating;
 mod exact;
 mod failing;

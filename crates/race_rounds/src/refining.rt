@@ -5,8 +5,8 @@ ghost use Rattle.typed_tree.specs.TypedTree.{TypedProgram};
 ghost use Rattle.lowered_graph.specs.Lowered.{lowered};
 ghost use Rattle.path_rows.specs.Paths.{IsPathOf};
 ghost use Rattle.path_decide.specs.Decided.{IsRefutation};
-ghost use Rattle.nested_predicates.specs.Interpolants.{RefutesRows, HasCutsUpTo};
-ghost use Rattle.nested_refutations.specs.Numbers.{NumbersFit};
+ghost use Rattle.nested_itp.specs.NestedPredicates.Interpolants.{RefutesRows, HasCutsUpTo};
+ghost use Rattle.nested_itp.specs.NestedRefutations.Numbers.{NumbersFit};
 ghost use Rattle.race_rounds.specs.Rounds.{IsEvidence, IsRefined};
 
 use crate::choosing::chosen;

@@ -4,10 +4,10 @@ ghost use Rattle.std.specs.Prelude.{IfOk, IfSome};
 ghost use Rattle.nwa_base.specs.Acceptance.{Accepts};
 ghost use Rattle.nwa_emptiness.specs.Found.{IsFound};
 
+use crate::concrete_walks::Walker;
 use crate::deviating::deviating;
 use crate::limits::Round;
 use crate::plans::moves_of;
-use concrete_walks::Walker;
 use letter_acts::Icfg;
 use nwa_base::{Nwa, Word, accepts};
 use nwa_emptiness::{Found, find};

@@ -8,7 +8,7 @@ ghost use Rattle.lin_rows.specs.Rows.{Holds};
 ghost use Rattle.letter_acts.specs.Feasible.{IsFeasible};
 ghost use Rattle.letter_acts.specs.Invariant.{alphabet_of};
 ghost use Rattle.typed_tree.specs.TypedTree.{TypedProgram};
-ghost use Rattle.typing_rules.specs.TypedParts.{typed_program};
+ghost use Rattle.typed_tree.specs.TypingRules.TypedParts.{typed_program};
 ghost use Rattle.lowered_graph.specs.Lowered.{lowered};
 ghost use Rattle.path_rows.specs.Paths.{IsPathOf};
 ghost use Rattle.path_decide.specs.Decided.{IsRefutation};
@@ -31,7 +31,7 @@ use path_rows::{PathSystem, rows_of};
 use race_core::{Cause, End, Entry};
 use std::alloc::{AllocError, Global};
 use std::thread::Threads;
-use typing_rules::Typed;
+use typed_tree::typing_rules::Typed;
 
 /// What is made of a kept word.
 #[derive(Drop)]

@@ -7,7 +7,7 @@ ghost use Rattle.path_decide.specs.Decided.{IsRowsRefutation};
 use farkas_check::Refutation;
 use letter_acts::Icfg;
 use lin_rows::{Row, RowKind};
-use nested_predicates::{ItpFault, prefix_predicates};
+use nested_itp::nested_predicates::{ItpFault, prefix_predicates};
 use path_rows::PathSystem;
 use std::alloc::{AllocError, Global};
 use std::collections::HashSet;

@@ -3,3 +3,4 @@ mod FailureLaws
 mod NoneLeft
 mod StartBodies
 mod Written
+pub mod RaceCompleteness

@@ -5,11 +5,11 @@ use Rattle.std.specs.Option.{option_map}
 use Rattle.std.proofs.lemmas.Bool.{and_parts, false≢true}
 use Rattle.std.proofs.lemmas.Option.{same_Some}
 use Rattle.typed_tree.specs.TypedTree.{TypedProgram}
-use Rattle.typing_rules.specs.Rules.{meets, keeps_typing}
-use Rattle.typing_rules.specs.Shape.{has_shape}
-use Rattle.typing_rules.specs.Counts.{numbers_fit}
-use Rattle.typing_rules.specs.ValidProgram as valid
-use Rattle.typing_rules.specs.ValidProgram.{has_body, is_typed, is_valid}
+use Rattle.typed_tree.specs.TypingRules.Rules.{meets, keeps_typing}
+use Rattle.typed_tree.specs.TypingRules.Shape.{has_shape}
+use Rattle.typed_tree.specs.TypingRules.Counts.{numbers_fit}
+use Rattle.typed_tree.specs.TypingRules.ValidProgram as valid
+use Rattle.typed_tree.specs.TypingRules.ValidProgram.{has_body, is_typed, is_valid}
 use Rattle.letter_acts.specs.Invariant.{Graph}
 use Rattle.lowered_graph.specs.Lowered.{entry_of, counted_procs, lowered}
 use Rattle.lowered_graph.proofs.Alphabet.{counted_get}

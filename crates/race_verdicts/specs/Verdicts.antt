@@ -6,7 +6,7 @@ use Rattle.nwa_base.specs.declared.letters.Letter.{Letter}
 use Rattle.typed_tree.specs.TypedTree.{TypedProgram}
 use Rattle.lowered_graph.specs.Lowered.{lowered}
 use Rattle.proof_form.specs.Annotations.{is_annotation}
-use Rattle.coarse_lines.specs.CoarseLetters.{coarse_letters}
+use Rattle.proof_names.specs.CoarseLines.CoarseLetters.{coarse_letters}
 use Rattle.proof_check.specs.Proves.{Proves}
 use Rattle.trace_replay.specs.declared.failure.Failure.{Failure}
 use Rattle.trace_replay.specs.FailureText.{IsInBounds, numbers, plain}

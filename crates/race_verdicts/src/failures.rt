@@ -3,7 +3,7 @@
 ghost use Rattle.std.specs.Prelude.{◌≡◌, ℕ, IfOk};
 ghost use Rattle.std.specs.List.{AllByRecursion};
 ghost use Rattle.math_facts.specs.Fits.{Fits};
-ghost use Rattle.typing_rules.specs.TypedParts.{typed_program};
+ghost use Rattle.typed_tree.specs.TypingRules.TypedParts.{typed_program};
 ghost use Rattle.trace_replay.specs.FailureText.{numbers};
 ghost use Rattle.trace_replay.specs.Replays.{Replays, IsReplayed};
 ghost use Rattle.race_verdicts.specs.Verdicts.{IsFailureBy};
@@ -11,7 +11,7 @@ ghost use Rattle.race_verdicts.specs.Verdicts.{IsFailureBy};
 use boogie_run::Choice;
 use std::alloc::{AllocError, Global};
 use trace_replay::{Failure, ReplayFault, Trail, replay};
-use typing_rules::Typed;
+use typed_tree::typing_rules::Typed;
 
 /// The values as choices.
 fn choices_from(alloc: Global, values: &[i128]) -> Result<Vec<Choice>, AllocError>

@@ -3,6 +3,7 @@
 
 mod failures;
 mod proving;
+pub mod race_completeness;
 mod texts;
 mod verdicts;
 

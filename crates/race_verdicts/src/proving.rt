@@ -1,7 +1,7 @@
 //! The annotation of a race that ended without a word.
 
 ghost use Rattle.std.specs.Prelude.{◌≡◌, IfOk, IsTrue, Option, Some, map};
-ghost use Rattle.typing_rules.specs.TypedParts.{typed_program};
+ghost use Rattle.typed_tree.specs.TypingRules.TypedParts.{typed_program};
 ghost use Rattle.lowered_graph.specs.Lowered.{lowered};
 ghost use Rattle.proof_form.specs.Annotations.{is_annotation};
 ghost use Rattle.proof_check.specs.Proves.{Proves};
@@ -14,11 +14,11 @@ ghost use Rattle.race_rounds.specs.Rounds.{IsRaceOf};
 use itp_automaton::Certified;
 use letter_acts::Icfg;
 use proof_build::build;
+use proof_build::proof_lean::lean;
 use proof_form::Annotation;
-use proof_lean::lean;
 use race_core::{Entry, Shared};
 use std::alloc::{AllocError, Global};
-use typing_rules::Typed;
+use typed_tree::typing_rules::Typed;
 
 /// The automata of entries.
 fn automata_in<'a>(

@@ -1,7 +1,7 @@
 //! What is said of a race that has ended.
 
 ghost use Rattle.std.specs.Prelude.{◌≡◌, IfOk, IsSome, Option};
-ghost use Rattle.typing_rules.specs.TypedParts.{typed_program};
+ghost use Rattle.typed_tree.specs.TypingRules.TypedParts.{typed_program};
 ghost use Rattle.lowered_graph.specs.Lowered.{lowered};
 ghost use Rattle.race_core.specs.declared.events.Entry.{Entry};
 ghost use Rattle.itp_automaton.specs.Certified.{Certificate};
@@ -11,16 +11,16 @@ ghost use Rattle.race_verdicts.specs.Verdicts.{IsVerdict};
 
 use crate::failures::failure_of;
 use crate::proving::annotation_of;
-use coarse_lines::coarse_letters;
 use itp_automaton::Certified;
 use letter_acts::Icfg;
 use nwa_base::Word;
 use proof_form::Annotation;
+use proof_names::coarse_lines::coarse_letters;
 use race_core::{Cause, End, Shared};
 use std::alloc::{AllocError, Global};
 use trace_replay::Failure;
 use trace_replay::laws::what_fails_when_tried_replays;
-use typing_rules::Typed;
+use typed_tree::typing_rules::Typed;
 
 /// What is said of a program.
 #[derive(Drop)]

@@ -14,7 +14,7 @@ use Rattle.typed_tree.specs.contracts.types.TExpr as expr
 use Rattle.typed_tree.specs.contracts.types.TSpec as spec
 use Rattle.typed_tree.specs.contracts.types.TStmt as stmt
 use Rattle.typed_tree.specs.contracts.types.TProc as proc
-use Rattle.typing_rules.specs.contracts.program.Typed as typed
+use Rattle.typed_tree.specs.contracts.typing_rules.program.Typed as typed
 use Rattle.boogie_tree.proofs.span.Span.TheSendSync as span
 use Rattle.boogie_tree.proofs.tree.Column.TheSendSync as column
 use Rattle.boogie_tree.proofs.tree.Op.TheSendSync as op

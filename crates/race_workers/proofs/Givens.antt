@@ -11,7 +11,7 @@ use Rattle.race_core.specs.Ends.{kind_of}
 use Rattle.race_core.specs.Histories.{Keeps, IsFair}
 use Rattle.race_core.specs.Races.{Race}
 use Rattle.itp_automaton.specs.Certified.{Certificate}
-use Rattle.kept_words.specs.Without.{IsWithout}
+use Rattle.race_workers.specs.KeptWords.Without.{IsWithout}
 use Rattle.race_rounds.specs.declared.limits.Limits.{Limits}
 use Rattle.race_rounds.specs.Ends.{EndMeets}
 use Rattle.race_rounds.specs.Rounds.{automaton_in, IsOwn, IsGiven, AreOwn, IsRaceOf}
@@ -19,7 +19,7 @@ use Rattle.version_cell.specs.Counts.{times, once_below, Begins}
 use Rattle.version_cell.specs.Views.{first_of}
 use Rattle.version_cell.specs.Passes.{Cell, Known, IsPassOf, newcomer, owning, joined, Continues, IsClosed}
 use Rattle.version_cell.proofs.Sums.{times_append}
-use Rattle.race_workers.specs.Parts.{IsPassAt, opening_history, opened_with, with_one_share, HasRun}
+use Rattle.race_workers.specs.Ties.Parts.{IsPassAt, opening_history, opened_with, with_one_share, HasRun}
 use Rattle.race_workers.proofs.Lists.{get_begins, all_by_get}
 use Rattle.race_workers.proofs.Published.{fair_by}
 

@@ -6,3 +6,4 @@ pub mod Crossing
 pub mod Published
 pub mod Givens
 pub mod Turns
+pub mod KeptWords

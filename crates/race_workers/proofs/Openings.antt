@@ -5,7 +5,7 @@ use Rattle.typed_tree.specs.TypedTree.{TypedProgram}
 use Rattle.itp_automaton.specs.Certified.{Certificate}
 use Rattle.race_rounds.specs.declared.limits.Limits.{Limits}
 use Rattle.version_cell.specs.Passes.{Cell, Known}
-use Rattle.race_workers.specs.Parts.{IsPassAt, IsFresh}
+use Rattle.race_workers.specs.Ties.Parts.{IsPassAt, IsFresh}
 use Rattle.race_workers.proofs.Parts.{fresh}
 
 pub all_fresh : (c : Cell) (t : TypedProgram) (limits : Limits) (n : ℕ) (l : List (Known Certificate)) → AllByRecursion (IsFresh c n) l →

@@ -27,7 +27,7 @@ use Rattle.version_cell.specs.Passes.{Cell, Known, IsPassOf, WasAt, shown, ownin
 use Rattle.version_cell.proofs.Sums.{times_last, times_either}
 use Rattle.version_cell.proofs.Beginnings.{begins_more}
 use Rattle.race_rounds.specs.declared.limits.Limits.{Limits}
-use Rattle.race_workers.specs.Parts.{IsJob, OwnsEntries, OwnsEnd, IsPassAt, IsFresh, IsAsSeen}
+use Rattle.race_workers.specs.Ties.Parts.{IsJob, OwnsEntries, OwnsEnd, IsPassAt, IsFresh, IsAsSeen}
 use Rattle.race_workers.proofs.Lists.{get_begins, get_last, begins_all}
 
 -- ---- ends

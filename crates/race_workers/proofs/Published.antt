@@ -4,8 +4,8 @@ use Rattle.nwa_base.specs.Automata.{Automaton}
 use Rattle.nwa_base.specs.Acceptance.{Accepts}
 use Rattle.race_core.specs.declared.events.Entry.{Entry}
 use Rattle.race_core.specs.Histories.{Keeps, IsFair}
-use Rattle.kept_words.specs.Without.{IsWithout}
-use Rattle.kept_words.proofs.KeptLaws.{published}
+use Rattle.race_workers.specs.KeptWords.Without.{IsWithout}
+use Rattle.race_workers.proofs.KeptWords.KeptLaws.{published}
 
 pub fair_by : {E : Type 0} (automaton : E → Automaton) (program kept read removed left next : Automaton) (h : List (Entry E)) (e : Entry E) (n : ℕ) →
     read ≡ kept → removed ≡ automaton e.evidence → next ≡ left → n ≡ length h → Keeps automaton program h kept → Accepts kept e.word →

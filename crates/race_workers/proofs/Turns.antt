@@ -23,7 +23,7 @@ use Rattle.version_cell.proofs.Beginnings.{begins_length}
 use Rattle.race_rounds.specs.declared.limits.Limits.{Limits}
 use Rattle.race_workers.specs.declared.rounds.Turn.{Turn}
 use Rattle.race_workers.specs.declared.rounds.Turn.TheVariants as turns
-use Rattle.race_workers.specs.Parts.{IsJob, IsAsSeen, turn_after, IsStillKept, Offers, Seeks, Pursues}
+use Rattle.race_workers.specs.Ties.Parts.{IsJob, IsAsSeen, turn_after, IsStillKept, Offers, Seeks, Pursues}
 use Rattle.race_workers.proofs.Parts.{program_of}
 
 -- ---- refusals

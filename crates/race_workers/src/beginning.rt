@@ -4,7 +4,7 @@ ghost use Rattle.std.specs.Prelude.{◌≡◌, ◌≤◌, IfSome, OnOk};
 ghost use Rattle.nwa_base.specs.Acceptance.{Accepts};
 ghost use Rattle.race_rounds.specs.Rounds.{automaton_in};
 ghost use Rattle.version_cell.specs.Passes.{IsPassOf, newcomer};
-ghost use Rattle.race_workers.specs.Parts.{opened_with};
+ghost use Rattle.race_workers.specs.Ties.Parts.{opened_with};
 
 use crate::offering::kept_behind;
 use itp_automaton::Certified;

@@ -1,11 +1,11 @@
 //! Ends that workers offer.
 
 ghost use Rattle.std.specs.Prelude.{◌≡◌, length};
-ghost use Rattle.typing_rules.specs.TypedParts.{typed_program};
+ghost use Rattle.typed_tree.specs.TypingRules.TypedParts.{typed_program};
 ghost use Rattle.race_rounds.specs.Ends.{EndMeets};
 ghost use Rattle.race_rounds.specs.Rounds.{automaton_in};
 ghost use Rattle.version_cell.specs.Counts.{Begins};
-ghost use Rattle.race_workers.specs.Parts.{IsJob, IsPassAt, Seeks};
+ghost use Rattle.race_workers.specs.Ties.Parts.{IsJob, IsPassAt, Seeks};
 
 use crate::gates::{Gate, Moment};
 use crate::jobs::Job;

@@ -1,7 +1,7 @@
 use itp_automaton::Certified;
 use letter_acts::Icfg;
 use race_rounds::Limits;
-use typing_rules::Typed;
+use typed_tree::typing_rules::Typed;
 use version_cell::VersionCell;
 
 /// What all workers of a race share.

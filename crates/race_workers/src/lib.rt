@@ -8,6 +8,7 @@ mod beginning;
 mod finishing;
 mod gates;
 mod jobs;
+pub mod kept_words;
 mod offering;
 mod racing;
 mod rounds;

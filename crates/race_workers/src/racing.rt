@@ -2,12 +2,12 @@
 
 ghost use Rattle.std.specs.Prelude.{◌≡◌, ◌≤◌, ◌+◌, None, IfOk, IfSome, IsSome};
 ghost use Rattle.nwa_base.specs.Acceptance.{Accepts};
-ghost use Rattle.typing_rules.specs.TypedParts.{typed_program};
+ghost use Rattle.typed_tree.specs.TypingRules.TypedParts.{typed_program};
 ghost use Rattle.lowered_graph.specs.Lowered.{lowered};
 ghost use Rattle.race_rounds.specs.Limits.{AreInRange};
 ghost use Rattle.race_rounds.specs.Rounds.{IsGiven, IsRaceOf};
 ghost use Rattle.version_cell.specs.Passes.{IsPassOf};
-ghost use Rattle.race_workers.specs.Parts.{IsJob, HasRun};
+ghost use Rattle.race_workers.specs.Ties.Parts.{IsJob, HasRun};
 
 use crate::beginning::begin;
 use crate::gates::Gate;
@@ -21,7 +21,7 @@ use race_rounds::Limits;
 use std::alloc::{AllocError, Global};
 use std::sync::{Arc, Wait};
 use std::thread::Threads;
-use typing_rules::Typed;
+use typed_tree::typing_rules::Typed;
 use version_cell::{Pass, create};
 
 /// Splits a pass off for each worker, runs the workers, and joins their passes. It fails where no worker saw the end.

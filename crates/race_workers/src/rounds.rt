@@ -2,10 +2,10 @@
 
 ghost use Rattle.std.specs.Prelude.{IfOk, IfSome};
 ghost use Rattle.std.specs.Arc.{arc_value};
-ghost use Rattle.typing_rules.specs.TypedParts.{typed_program};
+ghost use Rattle.typed_tree.specs.TypingRules.TypedParts.{typed_program};
 ghost use Rattle.race_rounds.specs.Rounds.{IsOwn};
 ghost use Rattle.version_cell.specs.Counts.{Begins};
-ghost use Rattle.race_workers.specs.Parts.{IsJob, IsPassAt, IsAsSeen, IsStillKept, Seeks, Pursues};
+ghost use Rattle.race_workers.specs.Ties.Parts.{IsJob, IsPassAt, IsAsSeen, IsStillKept, Seeks, Pursues};
 
 use crate::finishing::finish;
 use crate::gates::{Gate, Moment};

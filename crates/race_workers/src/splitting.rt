@@ -3,7 +3,7 @@
 ghost use Rattle.std.specs.Prelude.{◌≡◌, ◌+◌, length, IfOk, OnOk};
 ghost use Rattle.std.specs.List.{AllByRecursion};
 ghost use Rattle.version_cell.specs.Passes.{IsPassOf};
-ghost use Rattle.race_workers.specs.Parts.{IsFresh, with_one_share};
+ghost use Rattle.race_workers.specs.Ties.Parts.{IsFresh, with_one_share};
 
 use itp_automaton::Certified;
 use std::alloc::{AllocError, Global};

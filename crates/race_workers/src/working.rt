@@ -3,8 +3,8 @@
 ghost use Rattle.std.specs.Prelude.{◌≡◌, ◌+◌, ◌<◌, ◌≤◌, length, IfOk, OnOk, IsSome};
 ghost use Rattle.std.specs.List.{AllByRecursion};
 ghost use Rattle.std.specs.Thread.{IsSync};
-ghost use Rattle.typing_rules.specs.TypedParts.{typed_program};
-ghost use Rattle.race_workers.specs.Parts.{IsJob, IsPassAt};
+ghost use Rattle.typed_tree.specs.TypingRules.TypedParts.{typed_program};
+ghost use Rattle.race_workers.specs.Ties.Parts.{IsJob, IsPassAt};
 
 use crate::gates::Gate;
 use crate::jobs::Job;

@@ -3,7 +3,7 @@ use Rattle.std.proofs.Common.{◌≡◌, true, false, [], ◌∷◌, codes, refl
 use Rattle.std.proofs.lemmas.Fmt.{decimal_digit}
 use Rattle.proof_form.specs.declared.numerals.Numeral.{Numeral}
 use Rattle.proof_form.specs.Refutations.{leaf}
-use Rattle.lasso_ranks.specs.Lassos.{PlainLasso}
+use Rattle.rank_lasso.specs.LassoRanks.Lassos.{PlainLasso}
 use Rattle.rank_lasso.specs.LassoText.{lasso_text}
 use Rattle.rank_lasso.specs.RankingText.{rank_form, excluded_form, ranking_text}
 

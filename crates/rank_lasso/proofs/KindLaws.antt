@@ -1,7 +1,7 @@
 -- The lines of lassos and of rankings by their kinds.
 use Rattle.std.proofs.Common.{◌≡◌, ◌≢◌, ◌⊎◌, ℕ, zero, suc, ◌+◌, ◌≤◌, Bool, true, List, [], ◌∷◌, ◌++◌, codes, get_or, Result, Ok, Err, IfErr, inl, inr, refl, sym, ap, ◌∙◌, subst, arith}
 use Rattle.std.specs.List.{AllByRecursion, concat, list_all, flat_map}
-use Rattle.lasso_ranks.specs.Lassos.{PlainLasso}
+use Rattle.rank_lasso.specs.LassoRanks.Lassos.{PlainLasso}
 use Rattle.rank_lasso.specs.LassoText.{letters_text, letters_line, IsWritable, lasso_lines}
 use Rattle.rank_lasso.specs.RankingText.{RankingForm, rank_form, excluded_form, is_rank_term, IsProofForm, IsForm, rank_line, bound_line, proof_line, ending_lines, ranking_lines}
 use Rattle.proof_form.specs.Numerals.{numeral_text}
@@ -12,8 +12,8 @@ use Rattle.proof_form.proofs.ListLaws.{each_passes}
 use Rattle.rank_lasso.specs.Lines.{line_text, IsContent, AreTerms, IsNumeral, LineKind, Lacks, IsLineFault, Stops, GoesOn, Never, IsFaultIn, IsEndFault, IsEndingFault, kind, nothing, stem_kind, loop_kind, rank_kind, bound_kind, proof_kind, end_kind, way_kinds, lasso_kinds, rank_ending, excluded_ending, rank_kinds, excluded_kinds}
 use Rattle.rank_lasso.specs.Faults.{AreOfLasso, AreOfRanking, IsFirstFaultAs, IsLassoFault, IsRankingFault}
 use Rattle.letter_acts.specs.Invariant.{Graph}
-use Rattle.lasso_ranks.specs.declared.lassos.LassoFault.{LassoFault}
-use Rattle.lasso_ranks.specs.declared.lassos.LassoFault.TheVariants.{Syntax, BadName, BadStep, Memory}
+use Rattle.rank_lasso.specs.declared.lasso_ranks.lassos.LassoFault.{LassoFault}
+use Rattle.rank_lasso.specs.declared.lasso_ranks.lassos.LassoFault.TheVariants.{Syntax, BadName, BadStep, Memory}
 use Rattle.rank_lasso.proofs.FaultLaws.{AreOfKinds, AreWords, first_fault}
 
 -- ---- lines taken apart

@@ -12,3 +12,6 @@ mod NamingLaws
 mod WritingLaws
 pub mod OneText
 mod Examples
+pub mod LassoTurns
+pub mod RankingSystem
+pub mod LassoRanks

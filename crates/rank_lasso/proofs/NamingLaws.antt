@@ -20,9 +20,9 @@ use Rattle.proof_names.specs.Predicates.{term_named, terms_ascend}
 use Rattle.proof_names.specs.Refutations.{named_part, cut_of, node_of, refutation_of}
 use Rattle.proof_names.proofs.AllLaws.{front_of}
 use Rattle.proof_names.proofs.AtomLaws.{number_fits}
-use Rattle.proof_spell.specs.Nodes.{HasNumbers}
-use Rattle.lasso_turns.specs.Claims.{IsFormOver}
-use Rattle.lasso_ranks.specs.Ranks.{PlainRanking, ranked_by, excluded_by}
+use Rattle.proof_names.specs.ProofSpell.Nodes.{HasNumbers}
+use Rattle.rank_lasso.specs.LassoTurns.Claims.{IsFormOver}
+use Rattle.rank_lasso.specs.LassoRanks.Ranks.{PlainRanking, ranked_by, excluded_by}
 use Rattle.rank_lasso.specs.RankingText.{RankingForm, rank_form, excluded_form, IsForm}
 use Rattle.rank_lasso.specs.Naming.{entry_frame, if_ascending, form_named, rank_with, ranking_named, MayBeWritten, first_unnamed, bad_line}
 use Rattle.rank_lasso.proofs.AscendLaws.{ascending}

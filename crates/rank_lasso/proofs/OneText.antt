@@ -8,17 +8,17 @@ use Rattle.proof_form.specs.Numerals.{is_numeral, numeral_text}
 use Rattle.proof_form.specs.Predicates.{term_text}
 use Rattle.proof_form.specs.Refutations.{RefutationNode, refutation_text}
 use Rattle.proof_form.proofs.ListLaws.{each_passes}
-use Rattle.lasso_ranks.specs.Lassos.{PlainLasso}
-use Rattle.lasso_ranks.specs.Ranks.{PlainRanking, ranked_by, excluded_by, IsRankingOver, Ranks}
-use Rattle.proof_spell.proofs.RefutationLaws.{have_numbers}
+use Rattle.rank_lasso.specs.LassoRanks.Lassos.{PlainLasso}
+use Rattle.rank_lasso.specs.LassoRanks.Ranks.{PlainRanking, ranked_by, excluded_by, IsRankingOver, Ranks}
+use Rattle.proof_names.proofs.ProofSpell.RefutationLaws.{have_numbers}
 use Rattle.rank_lasso.specs.LassoText.{letters_text, letters_line, AreShort, IsWritable, lasso_lines, lasso_text}
 use Rattle.rank_lasso.specs.RankingText.{RankingForm, rank_form, excluded_form, is_rank_term, IsProofForm, IsForm, ending_lines, ranking_lines, ranking_text}
 use Rattle.rank_lasso.specs.Naming.{ranking_named, HaveNumbers, MayBeWritten, bad_line}
-use Rattle.rank_lasso.specs.Forms.{IsNameFault}
+use Rattle.rank_lasso.specs.Ties.Forms.{IsNameFault}
 use Rattle.rank_lasso.specs.Lines.{HasNo, line_text, letters, terms, number, tree, AreTerms, lasso_kinds}
 use Rattle.rank_lasso.specs.Faults.{IsFirstFaultAs, AreOfLasso, AreOfRanking, IsLassoFault, IsReadAs, IsRankingFault}
-use Rattle.lasso_ranks.specs.declared.lassos.LassoFault.{LassoFault}
-use Rattle.lasso_ranks.specs.declared.lassos.LassoFault.TheVariants.{Syntax, BadName, BadStep, Memory}
+use Rattle.rank_lasso.specs.declared.lasso_ranks.lassos.LassoFault.{LassoFault}
+use Rattle.rank_lasso.specs.declared.lasso_ranks.lassos.LassoFault.TheVariants.{Syntax, BadName, BadStep, Memory}
 use Rattle.rank_lasso.proofs.Cuts.{same_line}
 use Rattle.rank_lasso.proofs.Contents.{content_has_no_end, same_letters, same_numeral, same_terms, same_tree}
 use Rattle.rank_lasso.proofs.NamingLaws.{named_may_be_written, named_is_not_bad}

@@ -22,18 +22,18 @@ use Rattle.proof_names.specs.Options.{both, with_first, all_some}
 use Rattle.proof_names.specs.Predicates.{term_named}
 use Rattle.proof_names.specs.Refutations.{named_part, cut_of, node_of, refutation_of}
 use Rattle.proof_names.proofs.AllLaws.{front_of}
-use Rattle.proof_spell.specs.Spelled.{Writes, is_negative}
-use Rattle.proof_spell.specs.Nodes.{IsReadable}
-use Rattle.proof_spell.proofs.NumeralLaws.{integer_writes, writes_number}
-use Rattle.proof_spell.proofs.NameLaws.{column_found}
-use Rattle.lasso_turns.specs.Claims.{IsFormOver}
-use Rattle.lasso_ranks.specs.Lassos.{PlainLasso}
-use Rattle.lasso_ranks.specs.Ranks.{PlainRanking, ranked_by, excluded_by, IsRankOver}
+use Rattle.proof_names.specs.ProofSpell.Spelled.{Writes, is_negative}
+use Rattle.proof_names.specs.ProofSpell.Nodes.{IsReadable}
+use Rattle.proof_names.proofs.ProofSpell.NumeralLaws.{integer_writes, writes_number}
+use Rattle.proof_names.proofs.ProofSpell.NameLaws.{column_found}
+use Rattle.rank_lasso.specs.LassoTurns.Claims.{IsFormOver}
+use Rattle.rank_lasso.specs.LassoRanks.Lassos.{PlainLasso}
+use Rattle.rank_lasso.specs.LassoRanks.Ranks.{PlainRanking, ranked_by, excluded_by, IsRankOver}
 use Rattle.rank_lasso.specs.LassoText.{IsWritable, letters_line}
 use Rattle.rank_lasso.specs.RankingText.{rank_form, excluded_form, is_rank_term, rows_are_short, rank_line, bound_line, proof_line, ending_lines}
 use Rattle.rank_lasso.specs.Naming.{entry_frame, if_ascending, form_named, rank_with}
 use Rattle.rank_lasso.specs.Lines.{line_text}
-use Rattle.rank_lasso.specs.Writing.{integer_form, column_name, term_form, IsSpelled, WritesProof, WritesEnding}
+use Rattle.rank_lasso.specs.Ties.Writing.{integer_form, column_name, term_form, IsSpelled, WritesProof, WritesEnding}
 use Rattle.rank_lasso.specs.Faults.{IsReadAs}
 use Rattle.rank_lasso.proofs.AscendLaws.{ascending_test}
 use Rattle.rank_lasso.proofs.NamingLaws.{both_of}

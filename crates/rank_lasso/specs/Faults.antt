@@ -2,10 +2,10 @@
 use Rattle.std.specs.Prelude.{◌≡◌, ℕ, ◌<◌, List, take, Some}
 use Rattle.outer_io.specs.Lines.{lines_of}
 use Rattle.letter_acts.specs.Invariant.{Graph}
-use Rattle.lasso_ranks.specs.declared.lassos.LassoFault.{LassoFault}
-use Rattle.lasso_ranks.specs.declared.lassos.LassoFault.TheVariants.{Syntax, BadName, BadStep, Memory}
-use Rattle.lasso_ranks.specs.Lassos.{PlainLasso}
-use Rattle.lasso_ranks.specs.Ranks.{PlainRanking}
+use Rattle.rank_lasso.specs.declared.lasso_ranks.lassos.LassoFault.{LassoFault}
+use Rattle.rank_lasso.specs.declared.lasso_ranks.lassos.LassoFault.TheVariants.{Syntax, BadName, BadStep, Memory}
+use Rattle.rank_lasso.specs.LassoRanks.Lassos.{PlainLasso}
+use Rattle.rank_lasso.specs.LassoRanks.Ranks.{PlainRanking}
 use Rattle.rank_lasso.specs.LassoText.{IsWritable, lasso_lines}
 use Rattle.rank_lasso.specs.RankingText.{RankingForm, IsForm, ranking_lines, ranking_text}
 use Rattle.rank_lasso.specs.Naming.{ranking_named, bad_line}

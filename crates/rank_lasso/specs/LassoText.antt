@@ -3,7 +3,7 @@ use Rattle.std.specs.Prelude.{◌≢◌, ℕ, List, [], ◌∷◌, ◌++◌, cod
 use Rattle.std.specs.List.{concat, flat_map}
 use Rattle.std.specs.Fmt.{decimal}
 pub use Rattle.proof_form.specs.Annotations.{AreShort}
-use Rattle.lasso_ranks.specs.Lassos.{PlainLasso}
+use Rattle.rank_lasso.specs.LassoRanks.Lassos.{PlainLasso}
 
 -- letters by their numbers, a space before each
 abbrev pub letters_text : List ℕ → List ℕ

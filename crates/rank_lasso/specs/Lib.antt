@@ -2,6 +2,8 @@ pub mod LassoText
 pub mod RankingText
 pub mod Naming
 pub mod Lines
-pub mod Forms
-pub mod Writing
 pub mod Faults
+pub mod LassoTurns
+pub mod RankingSystem
+pub mod LassoRanks
+pub mod Ties

@@ -7,8 +7,8 @@ use Rattle.proof_form.specs.declared.numerals.Numeral.{Numeral}
 use Rattle.proof_form.specs.Numerals.{is_numeral, numeral_text}
 use Rattle.proof_form.specs.Predicates.{term_text}
 use Rattle.proof_form.specs.Refutations.{refutation_text}
-use Rattle.lasso_ranks.specs.declared.lassos.LassoFault.{LassoFault}
-use Rattle.lasso_ranks.specs.declared.lassos.LassoFault.TheVariants.{Syntax, BadName, BadStep, Memory}
+use Rattle.rank_lasso.specs.declared.lasso_ranks.lassos.LassoFault.{LassoFault}
+use Rattle.rank_lasso.specs.declared.lasso_ranks.lassos.LassoFault.TheVariants.{Syntax, BadName, BadStep, Memory}
 use Rattle.rank_lasso.specs.LassoText.{letters_text, AreShort}
 use Rattle.rank_lasso.specs.RankingText.{is_rank_term, IsProofForm}
 

@@ -11,9 +11,9 @@ use Rattle.proof_names.specs.Numbers.{number_in}
 use Rattle.proof_names.specs.Options.{both, all_some}
 use Rattle.proof_names.specs.Predicates.{term_named, terms_ascend}
 use Rattle.proof_names.specs.Refutations.{refutation_of}
-use Rattle.proof_spell.specs.Nodes.{HasNumbers}
-use Rattle.lasso_ranks.specs.Lassos.{entry_proc}
-use Rattle.lasso_ranks.specs.Ranks.{PlainRanking, ranked_by, excluded_by, IsRankingOver}
+use Rattle.proof_names.specs.ProofSpell.Nodes.{HasNumbers}
+use Rattle.rank_lasso.specs.LassoRanks.Lassos.{entry_proc}
+use Rattle.rank_lasso.specs.LassoRanks.Ranks.{PlainRanking, ranked_by, excluded_by, IsRankingOver}
 use Rattle.rank_lasso.specs.RankingText.{RankingForm, rank_form, excluded_form}
 
 -- the frame of the procedure of place 0

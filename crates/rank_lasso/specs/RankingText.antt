@@ -8,7 +8,7 @@ use Rattle.proof_form.specs.Numerals.{is_numeral, numeral_text}
 use Rattle.proof_form.specs.Predicates.{term_text}
 use Rattle.proof_form.specs.Refutations.{RefutationNode, leaf, cut, cases, is_refutation, refutation_text}
 use Rattle.proof_names.specs.Numbers.{short_in}
-use Rattle.lasso_ranks.specs.Lassos.{PlainLasso}
+use Rattle.rank_lasso.specs.LassoRanks.Lassos.{PlainLasso}
 use Rattle.rank_lasso.specs.LassoText.{way_lines}
 
 -- a ranking as it is spelled: numerals keep their digits, columns their names

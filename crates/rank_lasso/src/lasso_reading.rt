@@ -1,13 +1,13 @@
 //! Reads the texts of lassos.
 
 ghost use Rattle.std.specs.Prelude.{◌≡◌, IfOk, IfErr, MatchResult};
-ghost use Rattle.lasso_ranks.specs.declared.lassos.LassoFault.TheVariants.{Memory};
-ghost use Rattle.lasso_ranks.specs.Lassos.{PlainLasso, plain_lasso};
+ghost use Rattle.rank_lasso.specs.declared.lasso_ranks.lassos.LassoFault.TheVariants.{Memory};
+ghost use Rattle.rank_lasso.specs.LassoRanks.Lassos.{PlainLasso, plain_lasso};
 ghost use Rattle.rank_lasso.specs.LassoText.{IsWritable, lasso_text};
 ghost use Rattle.rank_lasso.specs.Faults.{IsLassoFault};
 
+use crate::lasso_ranks::{Lasso, LassoFault};
 use crate::lines::{bare_line, text_ends, way};
-use lasso_ranks::{Lasso, LassoFault};
 use std::alloc::Global;
 
 /// Reads the text of a lasso: `lasso 1`, `stem` and its letters, `loop` and one or more letters, `end`.

@@ -2,8 +2,8 @@
 
 ghost use Rattle.std.specs.Prelude.{◌≡◌, ℕ, List};
 ghost use Rattle.letter_acts.specs.Invariant.{Graph};
-ghost use Rattle.lasso_ranks.specs.Lassos.{PlainLasso};
-ghost use Rattle.lasso_ranks.specs.Ranks.{PlainRanking, Ranks};
+ghost use Rattle.rank_lasso.specs.LassoRanks.Lassos.{PlainLasso};
+ghost use Rattle.rank_lasso.specs.LassoRanks.Ranks.{PlainRanking, Ranks};
 ghost use Rattle.rank_lasso.specs.Naming.{HaveNumbers};
 ghost use Rattle.rank_lasso.specs.Faults.{IsReadAs};
 

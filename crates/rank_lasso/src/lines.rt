@@ -1,13 +1,13 @@
 //! The lines that texts of lassos and of rankings have in common.
 
 ghost use Rattle.std.specs.Prelude.{◌≡◌, ◌++◌, [], codes, IfOk, OnOk, IfErr};
-ghost use Rattle.lasso_ranks.specs.Lassos.{plain_lasso};
+ghost use Rattle.rank_lasso.specs.LassoRanks.Lassos.{plain_lasso};
 ghost use Rattle.rank_lasso.specs.LassoText.{AreShort, IsWritable, letters_line};
 ghost use Rattle.rank_lasso.specs.Lines.{AreSomeShort, kind, nothing, stem_kind, loop_kind, line_text, IsLineFault, IsEndFault, IsFaultIn, Never, way_kinds};
 
 use crate::cutting::line_at;
+use crate::lasso_ranks::{Lasso, LassoFault};
 use crate::letters::letters_of;
-use lasso_ranks::{Lasso, LassoFault};
 use std::alloc::Global;
 
 /// The first lines: this one, the stem and the loop.

@@ -3,15 +3,15 @@
 ghost use Rattle.std.specs.Prelude.{◌≡◌, Some, IfOk, IfErr};
 ghost use Rattle.std.specs.Option.{option_map};
 ghost use Rattle.proof_names.specs.Predicates.{terms_ascend};
-ghost use Rattle.proof_spell.specs.Nodes.{IsReadable};
-ghost use Rattle.lasso_ranks.specs.Ranks.{plain_ranking};
+ghost use Rattle.proof_names.specs.ProofSpell.Nodes.{IsReadable};
+ghost use Rattle.rank_lasso.specs.LassoRanks.Ranks.{plain_ranking};
 ghost use Rattle.rank_lasso.specs.RankingText.{IsForm};
 ghost use Rattle.rank_lasso.specs.Naming as spec;
-ghost use Rattle.rank_lasso.specs.Forms.{plain_form, IsNameFault};
+ghost use Rattle.rank_lasso.specs.Ties.Forms.{plain_form, IsNameFault};
 
 use crate::forms::Form;
+use crate::lasso_ranks::{LassoFault, Ranking};
 use boogie_tree::{Column, Text, VarInfo};
-use lasso_ranks::{LassoFault, Ranking};
 use letter_acts::Icfg;
 use proof_form::Numeral;
 use proof_names::{number_in, refutation_of, terms_named};

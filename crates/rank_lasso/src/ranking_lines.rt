@@ -4,17 +4,17 @@ ghost use Rattle.std.specs.Prelude.{◌≡◌, ◌++◌, codes, map, IfOk, IfErr
 ghost use Rattle.std.specs.List.{concat};
 ghost use Rattle.proof_form.specs.Refutations.{plain_refutation_node};
 ghost use Rattle.rank_lasso.specs.RankingText.{IsProofForm, IsForm, rank_line, bound_line, proof_line, ending_lines};
-ghost use Rattle.rank_lasso.specs.Forms.{plain_form};
+ghost use Rattle.rank_lasso.specs.Ties.Forms.{plain_form};
 ghost use Rattle.rank_lasso.specs.Lines.{AreTerms, IsNumeral, rank_kind, bound_kind, proof_kind, rank_ending, excluded_ending, GoesOn, IsLineFault, IsFaultIn, IsEndingFault};
 
 use crate::cutting::line_at;
 use crate::forms::Form;
+use crate::lasso_ranks::LassoFault;
 use crate::lines::{bare_line, text_ends};
 use crate::numerals::numeral_of;
 use crate::terms::terms_of;
 use crate::trees::tree_of;
 use boogie_tree::Text;
-use lasso_ranks::LassoFault;
 use proof_form::{Numeral, RNode};
 use std::alloc::Global;
 

@@ -1,16 +1,16 @@
 //! Reads the texts of rankings.
 
 ghost use Rattle.std.specs.Prelude.{◌≡◌, IfOk, IfErr, MatchResult};
-ghost use Rattle.lasso_ranks.specs.declared.lassos.LassoFault.TheVariants.{Memory};
-ghost use Rattle.lasso_ranks.specs.Lassos.{PlainLasso, plain_lasso};
-ghost use Rattle.lasso_ranks.specs.Ranks.{PlainRanking, plain_ranking};
+ghost use Rattle.rank_lasso.specs.declared.lasso_ranks.lassos.LassoFault.TheVariants.{Memory};
+ghost use Rattle.rank_lasso.specs.LassoRanks.Lassos.{PlainLasso, plain_lasso};
+ghost use Rattle.rank_lasso.specs.LassoRanks.Ranks.{PlainRanking, plain_ranking};
 ghost use Rattle.rank_lasso.specs.Naming.{MayBeWritten};
 ghost use Rattle.rank_lasso.specs.Faults.{IsReadAs, IsRankingFault};
 
+use crate::lasso_ranks::{Lasso, LassoFault, Ranking};
 use crate::lines::way;
 use crate::naming::named;
 use crate::ranking_lines::ending;
-use lasso_ranks::{Lasso, LassoFault, Ranking};
 use letter_acts::Icfg;
 use std::alloc::Global;
 

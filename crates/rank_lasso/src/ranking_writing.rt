@@ -6,24 +6,24 @@ ghost use Rattle.std.specs.Fmt.{decimal};
 ghost use Rattle.std.specs.String.{string_bytes};
 ghost use Rattle.math_facts.specs.Fits.{Fits};
 ghost use Rattle.proof_form.specs.Predicates.{term_text};
-ghost use Rattle.proof_spell.specs.Nodes.{IsReadable, HasNumbers};
-ghost use Rattle.lasso_turns.specs.Claims.{IsFormOver};
-ghost use Rattle.lasso_ranks.specs.Lassos.{plain_lasso};
-ghost use Rattle.lasso_ranks.specs.Ranks.{plain_ranking};
+ghost use Rattle.proof_names.specs.ProofSpell.Nodes.{IsReadable, HasNumbers};
+ghost use Rattle.rank_lasso.specs.LassoTurns.Claims.{IsFormOver};
+ghost use Rattle.rank_lasso.specs.LassoRanks.Lassos.{plain_lasso};
+ghost use Rattle.rank_lasso.specs.LassoRanks.Ranks.{plain_ranking};
 ghost use Rattle.rank_lasso.specs.LassoText.{IsWritable, letters_line};
 ghost use Rattle.rank_lasso.specs.RankingText.{rank_line, bound_line};
 ghost use Rattle.rank_lasso.specs.Naming.{MayBeWritten};
 ghost use Rattle.rank_lasso.specs.Lines.{line_text};
-ghost use Rattle.rank_lasso.specs.Writing.{integer_form, term_form, IsSpelled, WritesProof, WritesEnding};
+ghost use Rattle.rank_lasso.specs.Ties.Writing.{integer_form, term_form, IsSpelled, WritesProof, WritesEnding};
 ghost use Rattle.rank_lasso.specs.Faults.{IsReadAs};
 
+use crate::lasso_ranks::{Lasso, Ranking};
 use crate::naming::entry_frame;
 use boogie_tree::{Column, VarInfo};
 use farkas_check::Refutation;
-use lasso_ranks::{Lasso, Ranking};
 use letter_acts::Icfg;
 use proof_form::write_ref;
-use proof_spell::{column_text, node_lines};
+use proof_names::proof_spell::{column_text, node_lines};
 use std::alloc::{AllocError, Global};
 
 /// The text of a ranking of a lasso whose loop has a letter or more. `read_ranking` reads the same again.

@@ -7,3 +7,4 @@ pub mod GraphTexts
 pub mod ReplayedOnce
 pub mod ProofOnce
 pub mod TextsOnce
+pub mod CommandWords

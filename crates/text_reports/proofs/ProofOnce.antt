@@ -10,8 +10,8 @@ use Rattle.proof_form.proofs.StandingSteps.{adds_once, adds_no_end}
 use Rattle.proof_form.proofs.ReadLaws.{body_fits}
 use Rattle.proof_form.proofs.SpelledLaws.{body_text, spelled_header, spelled_completes, spelled_not_wrong}
 use Rattle.proof_form.proofs.OneLaws.{one_annotation}
-use Rattle.coarse_lines.specs.CoarseLetters.{first_wrong, first_missing}
-use Rattle.coarse_lines.proofs.ToldLaws.{letters_compared}
+use Rattle.proof_names.specs.CoarseLines.CoarseLetters.{first_wrong, first_missing}
+use Rattle.proof_names.proofs.CoarseLines.ToldLaws.{letters_compared}
 use Rattle.proof_names.specs.Items.{first_triple}
 use Rattle.proof_check.specs.declared.rejects.RejectCause.{RejectCause}
 use Rattle.proof_check.specs.declared.rejects.RejectCause.TheVariants.{BadTriple, NoStart, OpenError, MissingStep, BadStep, BadName}

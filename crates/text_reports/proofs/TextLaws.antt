@@ -7,8 +7,8 @@ use Rattle.boogie_tree.specs.Tree.{Declaration}
 use Rattle.boogie_tree.specs.Printing.{program_text}
 use Rattle.boogie_parse.specs.declared.fault.Fault.{Fault}
 use Rattle.boogie_parse.specs.declared.fault.Fault.TheVariants as faults
-use Rattle.boogie_parse.specs.GrammarLimits.{IsProgram}
-use Rattle.boogie_parse.specs.WholeText.{read_text}
+use Rattle.boogie_parse.specs.Rules.GrammarLimits.{IsProgram}
+use Rattle.boogie_parse.specs.Rules.WholeText.{read_text}
 use Rattle.typed_tree.specs.TypedTree.{TypedProgram}
 use Rattle.letter_acts.specs.Invariant.{Graph}
 use Rattle.proof_form.specs.Annotations.{Content}

@@ -4,11 +4,11 @@ use Rattle.std.proofs.Common.{◌≡◌, ℕ, ◌≤◌, ◌<◌, List, length, 
 use Rattle.std.proofs.lemmas.Option.{none-some, same_Some}
 use Rattle.boogie_tree.specs.Tree.{Declaration}
 use Rattle.boogie_parse.specs.declared.fault.Fault.{Fault}
-use Rattle.boogie_parse.specs.GrammarLimits.{IsProgram}
-use Rattle.boogie_parse.specs.WholeText.{read_text}
-use Rattle.boogie_parse.proofs.WholeText.{program_is_read, one_program}
+use Rattle.boogie_parse.specs.Rules.GrammarLimits.{IsProgram}
+use Rattle.boogie_parse.specs.Rules.WholeText.{read_text}
+use Rattle.boogie_parse.proofs.Rules.WholeText.{program_is_read, one_program}
 use Rattle.typed_tree.specs.TypedTree.{TypedProgram}
-use Rattle.typing_rules.proofs.BrokenLaws.{program_refuted}
+use Rattle.typed_tree.proofs.TypingRules.BrokenLaws.{program_refuted}
 use Rattle.boogie_types.specs.Resolved.{resolved_program}
 use Rattle.boogie_types.proofs.Excluded.{type_faults_exclude}
 use Rattle.letter_acts.specs.Invariant.{Graph}

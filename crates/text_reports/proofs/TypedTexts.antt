@@ -2,7 +2,7 @@
 use Rattle.std.proofs.Common.{◌≡◌, ℕ, List, ap, sym, ◌∙◌}
 use Rattle.std.proofs.lemmas.Option.{same_Some}
 use Rattle.boogie_tree.specs.Tree.{Declaration}
-use Rattle.boogie_parse.proofs.WholeText.{one_program}
+use Rattle.boogie_parse.proofs.Rules.WholeText.{one_program}
 use Rattle.typed_tree.specs.TypedTree.{TypedProgram}
 use Rattle.boogie_types.specs.Resolved.{resolved_program}
 use Rattle.text_reports.specs.ReportCases.{IsTypedText}

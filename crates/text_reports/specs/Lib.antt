@@ -4,3 +4,4 @@ pub mod LoweringRefusals
 pub mod ReportTexts
 pub mod ReportCases
 pub mod Answers
+pub mod CommandWords

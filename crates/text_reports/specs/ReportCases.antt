@@ -5,8 +5,8 @@ use Rattle.outer_io.specs.Lines.{lines_of}
 use Rattle.boogie_tree.specs.Tree.{Declaration}
 use Rattle.boogie_tree.specs.Printing.{program_text}
 use Rattle.boogie_parse.specs.declared.fault.Fault.{Fault}
-use Rattle.boogie_parse.specs.GrammarLimits.{IsProgram}
-use Rattle.boogie_parse.specs.WholeText.{read_text}
+use Rattle.boogie_parse.specs.Rules.GrammarLimits.{IsProgram}
+use Rattle.boogie_parse.specs.Rules.WholeText.{read_text}
 use Rattle.typed_tree.specs.TypedTree.{TypedProgram}
 use Rattle.typed_tree.specs.declared.fault.TypeFault.{TypeFault}
 use Rattle.typed_tree.specs.declared.fault.TypeFault.TheVariants as type_faults
@@ -18,7 +18,7 @@ use Rattle.lowered_graph.specs.Items.{ItemFault, first_fault}
 use Rattle.lowered_graph.specs.Lowered.{lowered}
 use Rattle.proof_form.specs.Annotations.{Content, is_annotation, AreShort, safe_text}
 use Rattle.proof_form.specs.Standing.{FirstWrongOfText}
-use Rattle.coarse_lines.specs.CoarseLetters.{coarse_letters, first_wrong, first_missing}
+use Rattle.proof_names.specs.CoarseLines.CoarseLetters.{coarse_letters, first_wrong, first_missing}
 use Rattle.proof_names.specs.Items.{first_triple}
 use Rattle.proof_check.specs.declared.rejects.RejectCause.{RejectCause}
 use Rattle.proof_check.specs.declared.rejects.RejectCause.TheVariants as rejects

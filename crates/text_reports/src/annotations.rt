@@ -3,7 +3,7 @@
 ghost use Rattle.std.specs.Prelude.{◌≡◌, ◌≢◌, ◌≤◌, ◌+◌, length, Err, IfOk, IfSome};
 ghost use Rattle.outer_io.specs.Faults.{Rose};
 ghost use Rattle.outer_io.specs.Texts.{text_named};
-ghost use Rattle.coarse_lines.specs.CoarseLetters.{coarse_letters};
+ghost use Rattle.proof_names.specs.CoarseLines.CoarseLetters.{coarse_letters};
 ghost use Rattle.proof_names.specs.Items.{first_triple};
 ghost use Rattle.proof_check.specs.declared.rejects.RejectCause.TheVariants as RejectCause;
 ghost use Rattle.text_reports.specs.Answers.{answer_of, HasNoErrorWord, TextIsSafe, IsJudged, IsRejected};
@@ -13,11 +13,11 @@ ghost use Rattle.text_reports.specs.ReportCases.{ReportsSecond, ReportsAnnotatio
 use crate::answers::TextAnswer;
 use crate::programs::lowered_text;
 use crate::reading::{Halt, PROGRAM_LIMIT, SECOND_LIMIT, text_within};
-use coarse_lines::{CoarseFault, compared};
 use letter_acts::Icfg;
 use outer_io::Shelf;
 use proof_check::{Reject, RejectCause, check};
 use proof_form::{Annotation, ProofFault, read_safe};
+use proof_names::coarse_lines::{CoarseFault, compared};
 use std::alloc::{AllocError, Global};
 
 /// The line of an annotation on which the first of its coarse lines and of its items stands.

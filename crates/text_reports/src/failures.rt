@@ -3,7 +3,7 @@
 ghost use Rattle.std.specs.Prelude.{◌≡◌, ◌≢◌, ◌≤◌, List, ℕ, length, Err, IfOk, IfSome};
 ghost use Rattle.outer_io.specs.Faults.{Rose};
 ghost use Rattle.outer_io.specs.Texts.{text_named};
-ghost use Rattle.typing_rules.specs.TypedParts.{typed_program};
+ghost use Rattle.typed_tree.specs.TypingRules.TypedParts.{typed_program};
 ghost use Rattle.trace_replay.specs.FailureText.{plain};
 ghost use Rattle.text_reports.specs.Answers.{answer_of};
 ghost use Rattle.text_reports.specs.ReportCases.{IsFailureText, ReportsFailure, ReportsReplay};

@@ -3,6 +3,7 @@
 
 mod annotations;
 mod answers;
+pub mod command_words;
 mod failures;
 mod programs;
 mod reading;

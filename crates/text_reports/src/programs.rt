@@ -5,7 +5,7 @@ ghost use Rattle.std.specs.List.{list_all};
 ghost use Rattle.boogie_tree.specs.Names.{is_name};
 ghost use Rattle.letter_acts.specs.Kept.{Keeps};
 ghost use Rattle.typed_tree.specs.declared.fault.TypeFault.TheVariants as TypeFault;
-ghost use Rattle.typing_rules.specs.TypedParts.{typed_program};
+ghost use Rattle.typed_tree.specs.TypingRules.TypedParts.{typed_program};
 ghost use Rattle.text_reports.specs.Answers.{answer_of, IsGraphOf, IsGraphOfText, IsRefusedText};
 ghost use Rattle.text_reports.specs.Refusals.{refusal};
 ghost use Rattle.text_reports.specs.TypeRefusals.{type_refusal};

@@ -10,7 +10,7 @@ use Rattle.std.proofs.lemmas.Fmt.{decimal_digit, decimal_step_wide, decimal_by_s
 use Rattle.std.proofs.lemmas.List.{append-nil, get_or_append_left}
 use Rattle.std.proofs.lemmas.Str.Parse.{digit_from_value}
 use Rattle.boogie_tree.specs.Names.{is_digit}
-use Rattle.trace_replay.specs.Pieces.{has_one_spelling}
+use Rattle.trace_replay.specs.Ties.Pieces.{has_one_spelling}
 
 -- each byte is a digit
 abbrev pub AreDigits : List ℕ → Type 0

@@ -12,7 +12,7 @@ use Rattle.trace_replay.specs.declared.reading.Head.{Head}
 use Rattle.math_facts.specs.Fits.{Fits}
 use Rattle.trace_replay.specs.FailureText.{PlainFailure, IsInBounds, assertion_line, value_line, failure_lines, failure_text, numbers}
 use Rattle.trace_replay.specs.FailureFaults.{IsFirstFault, IsFaultOf}
-use Rattle.trace_replay.specs.Pieces.{IsHead, head_lines}
+use Rattle.trace_replay.specs.Ties.Pieces.{IsHead, head_lines}
 use Rattle.trace_replay.proofs.Decimals.{decimal_injective}
 use Rattle.trace_replay.proofs.NumeralReading.{same_number}
 use Rattle.trace_replay.proofs.LineReading.{no_minus}

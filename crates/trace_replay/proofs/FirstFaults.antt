@@ -11,7 +11,7 @@ use Rattle.trace_replay.specs.FailureText.{PlainFailure, IsInBounds, numbered_li
 use Rattle.trace_replay.specs.FailureFaults.{IsFirstFault}
 use Rattle.std.proofs.lemmas.Bool.{and_from}
 use Rattle.std.proofs.lemmas.Bool.Decides.{nat_tests}
-use Rattle.trace_replay.specs.Pieces.{IsHead, head_lines}
+use Rattle.trace_replay.specs.Ties.Pieces.{IsHead, head_lines}
 use Rattle.trace_replay.proofs.Decimals.{AreDigits, decimal_digits}
 use Rattle.trace_replay.proofs.TextLines.{no_newline, no_newline-append, IsLine, line_first, first_line_is}
 

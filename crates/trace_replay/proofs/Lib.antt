@@ -24,3 +24,5 @@ pub mod TriedHere
 pub mod Examples
 pub mod ToldEnds
 pub mod ToldSites
+pub mod PathTraces
+pub mod ToldChoices

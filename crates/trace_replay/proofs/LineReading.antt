@@ -9,7 +9,7 @@ use Rattle.boogie_run.specs.declared.types.AssertId.{AssertId}
 use Rattle.boogie_run.specs.declared.types.Choice.{Choice}
 use Rattle.math_facts.specs.Fits.{Fits}
 use Rattle.trace_replay.specs.FailureText.{numbered_line, assertion_line, value_line}
-use Rattle.trace_replay.specs.Pieces.{Reads, IsBelowZero}
+use Rattle.trace_replay.specs.Ties.Pieces.{Reads, IsBelowZero}
 use Rattle.trace_replay.proofs.Decimals.{AreDigits, decimal_digits}
 use Rattle.trace_replay.proofs.NumeralReading.{same_number}
 

@@ -8,7 +8,7 @@ use Rattle.std.proofs.lemmas.Bool.{both_ways}
 use Rattle.std.proofs.lemmas.Fmt.{IsAscii-from_digits}
 use Rattle.std.proofs.lemmas.Str.{IsUtf8-from_ascii}
 use Rattle.std.proofs.lemmas.Str.Parse.{IsNumeralModel, numerals_by_value, tells_digits, parse_digits}
-use Rattle.trace_replay.specs.Pieces.{has_one_spelling}
+use Rattle.trace_replay.specs.Ties.Pieces.{has_one_spelling}
 use Rattle.trace_replay.proofs.Decimals.{AreDigits, digits_below_ten, decimal_some, decimal_value, decimal_spelling, decimal_of_digits}
 
 -- The digits are a number of 128 bits, or none is written so.

@@ -9,7 +9,7 @@ use Rattle.boogie_run.specs.Steps.{Outcome, Went, Failed, Refused, start, step}
 use Rattle.boogie_run.specs.Steps as outcomes
 use Rattle.boogie_run.specs.Fitting.{NextFits}
 use Rattle.boogie_run.specs.Runs.{run}
-use Rattle.lowered_choices.specs.Choices.{FailsAtLast}
+use Rattle.lowered_graph.specs.LoweredChoices.Choices.{FailsAtLast}
 use Rattle.trace_replay.specs.declared.causes.ReplayCause.{ReplayCause}
 use Rattle.trace_replay.specs.declared.causes.ReplayCause.TheVariants.{Blocked, Ended, Short, Number, BadChoice, Product}
 use Rattle.trace_replay.specs.Replays.{choices_among, StepsFit, Replays}

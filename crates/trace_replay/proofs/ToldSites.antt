@@ -3,7 +3,7 @@ use Rattle.std.proofs.Common.{◌≡◌, ℕ, ℤ, List, [], ◌∷◌, length, 
 use Rattle.std.specs.Prelude.{IfOk, IfErr}
 use Rattle.std.specs.List.{AllByRecursion}
 use Rattle.typed_tree.specs.TypedTree.{TypedProgram}
-use Rattle.typing_rules.specs.ValidProgram.{is_valid}
+use Rattle.typed_tree.specs.TypingRules.ValidProgram.{is_valid}
 use Rattle.lin_rows.specs.Rows.{Holds}
 use Rattle.nwa_base.specs.declared.letters.Letter.{Letter}
 use Rattle.nwa_base.specs.Members.{Member}
@@ -13,11 +13,11 @@ use Rattle.letter_acts.specs.declared.sites.Site.{Site}
 use Rattle.letter_acts.specs.Invariant.{Graph, IsGraph, site_places}
 use Rattle.lowered_graph.specs.Lowered.{lowered}
 use Rattle.lowered_graph.specs.Laws.{IsExactWord}
-use Rattle.lowered_choices.specs.Choices.{FailsAtLast}
-use Rattle.lowered_choices.specs.Laws.{TracesFail}
+use Rattle.lowered_graph.specs.LoweredChoices.Choices.{FailsAtLast}
+use Rattle.lowered_graph.specs.LoweredChoices.Laws.{TracesFail}
 use Rattle.path_rows.specs.Paths.{path_of}
-use Rattle.path_traces.specs.Solved.{first_position, next_positions, EndsIn}
-use Rattle.path_traces.specs.Laws.{SolutionsAreTraces}
+use Rattle.trace_replay.specs.PathTraces.Solved.{first_position, next_positions, EndsIn}
+use Rattle.trace_replay.specs.PathTraces.Laws.{SolutionsAreTraces}
 use Rattle.trace_replay.specs.declared.causes.ReplayCause.TheVariants.{Blocked, Ended, Short, Number, BadChoice, Product}
 use Rattle.trace_replay.specs.declared.causes.ReplayFault.{ReplayFault}
 use Rattle.trace_replay.specs.declared.causes.ReplayFault.TheVariants.{At, Memory}

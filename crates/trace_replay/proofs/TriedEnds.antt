@@ -5,8 +5,8 @@ use Rattle.std.proofs.lemmas.Bool.{false≢true, ltb-true}
 use Rattle.std.proofs.lemmas.Option.{slice_get_cases}
 use Rattle.math_facts.specs.Optional.{or_zero}
 use Rattle.typed_tree.specs.TypedTree.{TypedProgram}
-use Rattle.boogie_points.specs.Points.{Point}
-use Rattle.boogie_points.specs.Actions.{Action, Check, Suppose, Demand, Write, Guess, Test, Pick, Jump, Enter, Keep, Grant, Finish, Leave, action_at}
+use Rattle.boogie_run.specs.BoogiePoints.Points.{Point}
+use Rattle.boogie_run.specs.BoogiePoints.Actions.{Action, Check, Suppose, Demand, Write, Guess, Test, Pick, Jump, Enter, Keep, Grant, Finish, Leave, action_at}
 use Rattle.boogie_run.specs.Configurations.{Frame, Config}
 use Rattle.boogie_run.specs.Needs.{Need, need_of_action, need, is_taken, locals_at}
 use Rattle.boogie_run.specs.Steps.{Outcome, Went, Failed, Refused, start, step, next, act, went_if, left, with_global, with_local}

@@ -10,7 +10,7 @@ use Rattle.trace_replay.specs.declared.failure.FailureFault.TheVariants.{Syntax,
 use Rattle.trace_replay.specs.declared.reading.Head.{Head}
 use Rattle.trace_replay.specs.FailureText.{PlainFailure, IsInBounds, numbered_line, value_line, failure_lines}
 use Rattle.trace_replay.specs.FailureFaults.{IsFirstFault, IsFaultOf}
-use Rattle.trace_replay.specs.Pieces.{IsHead, head_lines, ValuesEnd, ReadsValues}
+use Rattle.trace_replay.specs.Ties.Pieces.{IsHead, head_lines, ValuesEnd, ReadsValues}
 use Rattle.trace_replay.proofs.Decimals.{decimal_injective}
 use Rattle.trace_replay.proofs.TextLines.{lines_first, first_line_is, no_line_is}
 use Rattle.trace_replay.proofs.FirstFaults.{refused, values_are_lines, head_lines_are_lines}

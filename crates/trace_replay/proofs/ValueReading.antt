@@ -5,7 +5,7 @@ use Rattle.std.proofs.lemmas.List.{append-nil, map-append, length-map}
 use Rattle.boogie_run.specs.declared.types.Choice.{Choice}
 use Rattle.math_facts.specs.Fits.{Fits}
 use Rattle.trace_replay.specs.FailureText.{value_line, numbers}
-use Rattle.trace_replay.specs.Pieces.{ValuesEnd}
+use Rattle.trace_replay.specs.Ties.Pieces.{ValuesEnd}
 
 -- The text begins with these values, and goes on with the rest.
 pub record AreRead (text : List ℕ) (choices : List Choice) (rest : List ℕ) : Type 0 where

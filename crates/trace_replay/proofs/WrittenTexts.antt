@@ -6,7 +6,7 @@ use Rattle.boogie_run.specs.declared.types.Choice.{Choice}
 use Rattle.trace_replay.specs.declared.failure.Failure.{Failure}
 use Rattle.trace_replay.specs.declared.reading.Head.{Head}
 use Rattle.trace_replay.specs.FailureText.{value_line, failure_text, numbers, plain}
-use Rattle.trace_replay.specs.Pieces.{head_lines}
+use Rattle.trace_replay.specs.Ties.Pieces.{head_lines}
 use Rattle.trace_replay.proofs.FailureLaws.{concat_append}
 use Rattle.trace_replay.proofs.ValueFaults.{failure_of_lines}
 use Rattle.trace_replay.proofs.ValueReading.{one_more_line}

@@ -1,6 +1,5 @@
 pub mod FailureText
 pub mod FailureFaults
-pub mod Pieces
 pub mod Replays
 pub mod ReplayCauses
 pub mod Tried
@@ -8,3 +7,6 @@ pub mod Guesses
 pub mod NextChoices
 pub mod ReplayAnswers
 pub mod ToldRuns
+pub mod PathTraces
+pub mod ToldChoices
+pub mod Ties

@@ -7,8 +7,8 @@ use Rattle.nwa_base.specs.Runs.{IsAcceptingRun}
 use Rattle.letter_acts.specs.declared.sites.Site.{Site}
 use Rattle.lowered_graph.specs.Lowered.{lowered}
 use Rattle.lowered_graph.specs.Laws.{IsExactWord}
-use Rattle.lowered_choices.specs.Choices.{trace_choices, FailsAtLast}
-use Rattle.path_traces.specs.Solved.{next_positions, EndsIn}
+use Rattle.lowered_graph.specs.LoweredChoices.Choices.{trace_choices, FailsAtLast}
+use Rattle.trace_replay.specs.PathTraces.Solved.{next_positions, EndsIn}
 use Rattle.boogie_run.specs.Configurations.{Config}
 use Rattle.boogie_run.specs.Steps.{Went, start}
 use Rattle.boogie_run.specs.Fitting.{NextFits}

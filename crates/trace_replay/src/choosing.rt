@@ -5,12 +5,12 @@ ghost use Rattle.std.specs.List.{AllByRecursion};
 ghost use Rattle.math_facts.specs.Fits.{Fits};
 ghost use Rattle.lin_rows.specs.Rows.{Holds};
 ghost use Rattle.lin_rows.specs.Points.{point_of};
-ghost use Rattle.typing_rules.specs.TypedParts.{typed_program};
+ghost use Rattle.typed_tree.specs.TypingRules.TypedParts.{typed_program};
 ghost use Rattle.nwa_base.specs.Acceptance.{Accepts};
 ghost use Rattle.nwa_base.specs.Runs.{IsAcceptingRun};
 ghost use Rattle.lowered_graph.specs.Lowered.{lowered};
 ghost use Rattle.path_rows.specs.Paths.{path_of};
-ghost use Rattle.told_choices.specs.Telling.{ChoicesFit};
+ghost use Rattle.trace_replay.specs.ToldChoices.Telling.{ChoicesFit};
 ghost use Rattle.trace_replay.specs.FailureText.{numbers};
 ghost use Rattle.trace_replay.specs.Replays.{choices_among};
 ghost use Rattle.trace_replay.specs.ReplayAnswers.{IsTriedFault};
@@ -20,16 +20,16 @@ ghost use Rattle.trace_replay.specs.Guesses.{IsGuessed};
 
 use crate::causes::ReplayFault;
 use crate::failure::Trail;
+use crate::path_traces::laws::solutions_are_traces;
 use crate::searching::guessed;
+use crate::told_choices::told_choices;
 use crate::trying::tried;
 use boogie_run::Choice;
 use letter_acts::Icfg;
-use lowered_choices::laws::choices_of_traces;
+use lowered_graph::lowered_choices::laws::choices_of_traces;
 use nwa_base::{Word, run_of};
-use path_traces::laws::solutions_are_traces;
 use std::alloc::{AllocError, Global};
-use told_choices::told_choices;
-use typing_rules::Typed;
+use typed_tree::typing_rules::Typed;
 
 /// A run of the automaton over a word that it accepts.
 fn accepting_run(alloc: Global, icfg: &Icfg, word: &Word) -> Result<Vec<u32>, AllocError>

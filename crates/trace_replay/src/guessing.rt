@@ -3,7 +3,7 @@
 ghost use Rattle.std.specs.Prelude.{◌≡◌, true, ◌≤◌, ◌++◌, length, drop, IfOk};
 ghost use Rattle.std.specs.List.{AllByRecursion};
 ghost use Rattle.math_facts.specs.Fits.{Fits};
-ghost use Rattle.typing_rules.specs.TypedParts.{typed_program};
+ghost use Rattle.typed_tree.specs.TypingRules.TypedParts.{typed_program};
 ghost use Rattle.trace_replay.specs.FailureText.{numbers};
 ghost use Rattle.trace_replay.specs.Guesses.{IsGuessed};
 
@@ -11,7 +11,7 @@ use crate::failure::Trail;
 use crate::replaying::{Turn, one_step};
 use boogie_run::{Choice, Need, needs, start};
 use std::alloc::{AllocError, Global};
-use typing_rules::Typed;
+use typed_tree::typing_rules::Typed;
 
 /// The number that a run takes at a place of its choices in place of the current one.
 #[derive(Clone, Copy)]

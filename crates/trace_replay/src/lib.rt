@@ -7,11 +7,13 @@ mod failure;
 mod guessing;
 pub mod laws;
 mod numerals;
+pub mod path_traces;
 mod pieces;
 mod reading;
 mod replaying;
 mod searching;
 mod suggesting;
+pub mod told_choices;
 mod trying;
 mod writing;
 

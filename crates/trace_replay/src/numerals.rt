@@ -3,7 +3,7 @@ ghost use Rattle.std.specs.Prelude.{◌≡◌, ◌≢◌, ◌++◌, ◌∷◌, �
 ghost use Rattle.std.specs.List.{AllByRecursion, prefix_len};
 ghost use Rattle.std.specs.Fmt.{decimal};
 ghost use Rattle.boogie_tree.specs.Names.{is_digit};
-ghost use Rattle.trace_replay.specs.Pieces.{Reads, has_one_spelling};
+ghost use Rattle.trace_replay.specs.Ties.Pieces.{Reads, has_one_spelling};
 
 /// A number, and behind it the byte that ends it, which is no digit.
 pub(crate) fn number_to(bytes: &[u8], end: u8) -> Option<(u128, &[u8])>

@@ -3,7 +3,7 @@ ghost use Rattle.std.specs.Prelude.{◌++◌, ◌∷◌, [], ◌^◌, ◌<◌, u
 ghost use Rattle.std.specs.Fmt.{decimal};
 ghost use Rattle.math_facts.specs.Fits.{Fits};
 ghost use Rattle.trace_replay.specs.FailureText.{numbered_line, assertion_line, value_line};
-ghost use Rattle.trace_replay.specs.Pieces.{Reads, IsBelowZero};
+ghost use Rattle.trace_replay.specs.Ties.Pieces.{Reads, IsBelowZero};
 
 use crate::numerals::{long_number_to, number_to, short_number_to};
 use boogie_run::{AssertId, Choice};

@@ -4,7 +4,7 @@ ghost use Rattle.std.specs.List.{concat};
 ghost use Rattle.trace_replay.specs.declared.failure.FailureFault.TheVariants.{Memory};
 ghost use Rattle.trace_replay.specs.FailureText.{PlainFailure, IsInBounds, failure_text, plain};
 ghost use Rattle.trace_replay.specs.FailureFaults.{IsFaultOf};
-ghost use Rattle.trace_replay.specs.Pieces.{IsHead, head_lines, ReadsValues};
+ghost use Rattle.trace_replay.specs.Ties.Pieces.{IsHead, head_lines, ReadsValues};
 
 use crate::failure::{Failure, FailureFault, Trail};
 use crate::pieces::{assertion, numbered, value};

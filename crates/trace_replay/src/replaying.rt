@@ -1,6 +1,6 @@
 //! Replays runs.
 ghost use Rattle.std.specs.Prelude.{◌≡◌, ◌⊎◌, ℕ, Ok, Err, IfOk, IfErr, MatchResult};
-ghost use Rattle.typing_rules.specs.TypedParts.{typed_program};
+ghost use Rattle.typed_tree.specs.TypingRules.TypedParts.{typed_program};
 ghost use Rattle.boogie_run.specs.RunView.{config_of, FitsProgram};
 ghost use Rattle.boogie_run.specs.StepView.{need_view, choice_view};
 ghost use Rattle.trace_replay.specs.FailureText.{numbers};
@@ -15,7 +15,7 @@ use crate::causes::{ReplayCause, ReplayFault};
 use crate::failure::Trail;
 use boogie_run::{AssertId, Choice, Config, Moved, Need, RunFault, needs, start, step};
 use std::alloc::{AllocError, Global};
-use typing_rules::Typed;
+use typed_tree::typing_rules::Typed;
 
 /// Runs the program on the choices, in order: the assertion that fails after at most that many steps, with all choices used.
 pub fn replay(alloc: Global, program: &Typed, trail: &Trail) -> Result<AssertId, ReplayFault>

@@ -3,7 +3,7 @@
 ghost use Rattle.std.specs.Prelude.{◌≡◌, true, IfOk, IfSome};
 ghost use Rattle.std.specs.List.{AllByRecursion};
 ghost use Rattle.math_facts.specs.Fits.{Fits};
-ghost use Rattle.typing_rules.specs.TypedParts.{typed_program};
+ghost use Rattle.typed_tree.specs.TypingRules.TypedParts.{typed_program};
 ghost use Rattle.trace_replay.specs.FailureText.{numbers};
 ghost use Rattle.trace_replay.specs.Guesses.{IsGuessed};
 
@@ -11,9 +11,9 @@ use crate::failure::Trail;
 use crate::guessing::{Attempt, Guess, Other, current_at, try_guess};
 use crate::suggesting::suggested;
 use boogie_run::Choice;
-use random_numbers::Random;
+use math_facts::random_numbers::Random;
 use std::alloc::{AllocError, Global};
-use typing_rules::Typed;
+use typed_tree::typing_rules::Typed;
 
 /// How many steps all runs of a search make together at most; its last run may be cut off.
 const ALL_STEPS: u64 = 16_384;

@@ -1,7 +1,7 @@
 //! How the run ends that takes given choices.
 
 ghost use Rattle.std.specs.Prelude.{◌≡◌, IfOk, IfErr};
-ghost use Rattle.typing_rules.specs.TypedParts.{typed_program};
+ghost use Rattle.typed_tree.specs.TypingRules.TypedParts.{typed_program};
 ghost use Rattle.trace_replay.specs.FailureText.{numbers};
 ghost use Rattle.trace_replay.specs.ReplayAnswers.{FailsBy, IsTriedFault, told_cause};
 
@@ -9,7 +9,7 @@ use crate::causes::{ReplayCause, ReplayFault};
 use crate::replaying::{Turn, one_step};
 use boogie_run::{Choice, start};
 use std::alloc::Global;
-use typing_rules::Typed;
+use typed_tree::typing_rules::Typed;
 
 /// How a run fails: after how many steps, and how many choices it used.
 #[derive(Clone, Copy)]

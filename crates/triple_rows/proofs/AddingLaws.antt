@@ -10,7 +10,7 @@ use Rattle.triple_rows.specs.declared.predicates.PredNode.TheVariants.{And, Or}
 use Rattle.triple_rows.specs.Predicates.{Formula, Formulas, no_formula, one_more, HasInequalities, HaveInequalities, bundled, formulas, first_formula, formula_of, SpellsPredicate}
 use Rattle.triple_rows.specs.Reading.{IsRest}
 use Rattle.triple_rows.specs.Systems.{PlainSystem, Groups, Members, plain_system, no_group, one_group, no_member, one_member, PlainFits, MembersFit, IsSystem, AreMembers, both_systems, only_rows, groups_joined}
-use Rattle.triple_rows.specs.Drafts.{Adds, stated, all_stated, members_stated}
+use Rattle.triple_rows.specs.Ties.Drafts.{Adds, stated, all_stated, members_stated}
 use Rattle.triple_rows.proofs.DraftLaws.{adds_both, both_fit}
 use Rattle.triple_rows.proofs.HoldingLaws.{take_next, rest_first, predicate_is_whole}
 use Rattle.triple_rows.proofs.SaidLaws.{spelled_inequalities}

@@ -14,9 +14,9 @@ use Rattle.letter_acts.specs.Invariant.{call_width, written_by}
 use Rattle.letter_acts.proofs.ListLemmas.{below_or_from}
 use Rattle.letter_acts.proofs.PointLemmas.{point_of-left, point_of-right, state_length, length-values_from, helpers_as_point}
 use Rattle.triple_rows.specs.Predicates.{Formula, FormulaHolds, HasInequalities}
-use Rattle.triple_rows.specs.Known.{BackIsRead}
+use Rattle.triple_rows.specs.Ties.Known.{BackIsRead}
 use Rattle.triple_rows.specs.Systems.{PlainSystem, PlainMeets, after_column, call_column, back_system, said, denied, only_rows}
-use Rattle.frame_rows.specs.Rows.{bounds, types_of, types_at, equal_row, renamed}
+use Rattle.letter_acts.specs.FrameRows.Rows.{bounds, types_of, types_at, equal_row, renamed}
 use Rattle.triple_rows.proofs.ListLaws.{all_from, all_same, all_mapped, all_passed, within}
 use Rattle.triple_rows.proofs.SaidLaws.{HasValues, all_met, renamed_holds, state_said, state_heard, state_shown, state_denied}
 use Rattle.triple_rows.proofs.RowLaws.{IsTyped, equal_rows, frame_heard, frame_said, written_heard, written_said}

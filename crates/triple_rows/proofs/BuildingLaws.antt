@@ -6,8 +6,8 @@ use Rattle.letter_acts.specs.Frames.{Columns, globals_of, olds_of}
 use Rattle.letter_acts.specs.Invariant.{written_by}
 use Rattle.triple_rows.specs.Predicates.{Formula}
 use Rattle.triple_rows.specs.Systems.{PlainSystem, said, denied, only_rows, after_column}
-use Rattle.frame_rows.specs.Rows.{equal_row, bounds, types_of, types_at}
-use Rattle.triple_rows.specs.Drafts.{return_ties}
+use Rattle.letter_acts.specs.FrameRows.Rows.{equal_row, bounds, types_of, types_at}
+use Rattle.triple_rows.specs.Ties.Drafts.{return_ties}
 
 abbrev pub call_parts : Columns → Columns → List LinearRow → Formula → Formula → List PlainSystem
 call_parts caller callee rows from to =

@@ -11,9 +11,9 @@ use Rattle.letter_acts.specs.Reading.{CallReads}
 use Rattle.letter_acts.specs.Invariant.{call_width}
 use Rattle.letter_acts.proofs.PointLemmas.{point_of-left, point_of-right, state_length, length-values_from, helpers_as_point}
 use Rattle.triple_rows.specs.Predicates.{Formula, FormulaHolds}
-use Rattle.triple_rows.specs.Known.{CallIsRead}
+use Rattle.triple_rows.specs.Ties.Known.{CallIsRead}
 use Rattle.triple_rows.specs.Systems.{PlainMeets, call_system, said, denied, only_rows}
-use Rattle.frame_rows.specs.Rows.{bounds, types_of, equal_row}
+use Rattle.letter_acts.specs.FrameRows.Rows.{bounds, types_of, equal_row}
 use Rattle.triple_rows.proofs.SaidLaws.{HasValues, all_met, state_said, state_heard, state_shown, state_denied}
 use Rattle.triple_rows.proofs.RowLaws.{equal_rows, frame_heard, frame_said}
 use Rattle.triple_rows.proofs.StateLaws.{read_state, read_has_values, read_is_state, state_is_typed, joined_agrees, tied, from_zero}

@@ -10,7 +10,7 @@ use Rattle.lin_rows.specs.Systems.{rows_of, groups_of, members_of}
 use Rattle.lin_rows.proofs.SystemLaws.{members_of-append}
 use Rattle.triple_rows.specs.declared.drafts.Draft.{Draft}
 use Rattle.triple_rows.specs.Systems.{PlainSystem, Groups, Members, plain_system, no_group, one_group, PlainFits, GroupsFit, IsSystem, AreGroups, AreMembers, groups_joined, both_systems, only_rows, all_systems, one_of}
-use Rattle.triple_rows.specs.Drafts.{Adds, AddsAll}
+use Rattle.triple_rows.specs.Ties.Drafts.{Adds, AddsAll}
 use Rattle.triple_rows.proofs.ListLaws.{all_joined}
 
 pub groups_joined_are : (a b : Groups) (gs hs : List (List System)) → AreGroups a gs → AreGroups b hs → AreGroups (groups_joined a b) (gs ++ hs)

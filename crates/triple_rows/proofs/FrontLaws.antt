@@ -6,7 +6,7 @@ use Rattle.boogie_tree.specs.declared.tree.Column.TheVariants.{Global, Old, Loca
 use Rattle.boogie_tree.specs.declared.tree.VarInfo.{VarInfo}
 use Rattle.letter_acts.specs.Frames.{Columns, old_at, olds_from, olds_of}
 use Rattle.letter_acts.specs.Reading.{taken}
-use Rattle.triple_rows.specs.Tables.{old_global}
+use Rattle.triple_rows.specs.Ties.Tables.{old_global}
 
 -- ---- old columns
 

@@ -9,8 +9,8 @@ use Rattle.triple_rows.specs.declared.triples.Triple.{Triple}
 use Rattle.triple_rows.specs.declared.triples.Triple.TheVariants.{Inside, Call, Back}
 use Rattle.triple_rows.specs.Predicates.{Formula, truth, formula_of}
 use Rattle.triple_rows.specs.Systems.{PlainSystem, both_systems, all_systems, only_rows, said, denied, after_column}
-use Rattle.frame_rows.specs.Rows.{equal_row, bounds, types_of, types_at}
-use Rattle.triple_rows.specs.Drafts.{return_ties}
+use Rattle.letter_acts.specs.FrameRows.Rows.{equal_row, bounds, types_of, types_at}
+use Rattle.triple_rows.specs.Ties.Drafts.{return_ties}
 use Rattle.triple_rows.specs.Triples.{IsScoped, truth_of, InsideAgrees, CallAgrees, BackAgrees, ReturnAgrees, Agrees, inside_system_of, call_system_of, back_system_of, return_system_of, system_of}
 use Rattle.triple_rows.specs.Halves.{said_before, said_after}
 use Rattle.triple_rows.proofs.BuildingLaws.{return_ends}

@@ -13,9 +13,9 @@ use Rattle.letter_acts.specs.Invariant.{inside_width}
 use Rattle.letter_acts.proofs.ListLemmas.{below_or_from}
 use Rattle.letter_acts.proofs.PointLemmas.{point_of-left, point_of-right, state_length, length-values_from, helpers_as_point}
 use Rattle.triple_rows.specs.Predicates.{Formula, FormulaHolds}
-use Rattle.triple_rows.specs.Known.{InsideIsRead}
+use Rattle.triple_rows.specs.Ties.Known.{InsideIsRead}
 use Rattle.triple_rows.specs.Systems.{PlainMeets, after_column, inside_system, said, denied, only_rows}
-use Rattle.frame_rows.specs.Rows.{bounds, types_of, types_at}
+use Rattle.letter_acts.specs.FrameRows.Rows.{bounds, types_of, types_at}
 use Rattle.triple_rows.proofs.ListLaws.{within, something_at, all_at}
 use Rattle.triple_rows.proofs.SaidLaws.{HasValues, all_met, state_said, state_heard, state_shown, state_denied}
 use Rattle.triple_rows.proofs.RowLaws.{IsTyped, frame_heard, frame_said, written_heard, written_said}

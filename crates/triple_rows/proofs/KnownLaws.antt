@@ -16,7 +16,7 @@ use Rattle.letter_acts.specs.Known.{FramesAgree}
 use Rattle.letter_acts.proofs.ListLemmas.{all_weaker, all_member, all_from_members, some_within}
 use Rattle.letter_acts.proofs.KnownLemmas.{frames_agree}
 use Rattle.triple_rows.specs.Predicates.{Formula, IsOver, HasInequalities}
-use Rattle.triple_rows.specs.Known.{InsideIsRead, CallIsRead, BackIsRead}
+use Rattle.triple_rows.specs.Ties.Known.{InsideIsRead, CallIsRead, BackIsRead}
 use Rattle.triple_rows.proofs.ListLaws.{all_mapped, all_joined, places_below, olds_below}
 
 -- ---- lists

@@ -17,7 +17,7 @@ use Rattle.triple_rows.specs.declared.triples.Scoped.{Scoped}
 use Rattle.triple_rows.specs.declared.triples.Triple.{Triple}
 use Rattle.triple_rows.specs.Predicates.{Formula, formula_of}
 use Rattle.triple_rows.specs.Systems.{IsSystem, back_system}
-use Rattle.triple_rows.specs.Known.{BackIsRead}
+use Rattle.triple_rows.specs.Ties.Known.{BackIsRead}
 use Rattle.triple_rows.specs.Triples.{IsScoped, ReturnAgrees, Agrees, HasTarget, IsValid, return_system_of, system_of}
 use Rattle.triple_rows.proofs.ListLaws.{all_at}
 use Rattle.triple_rows.proofs.ValidLaws.{system_exact}

@@ -9,9 +9,9 @@ use Rattle.lin_rows.specs.Negating.{negated}
 use Rattle.letter_acts.proofs.ListLemmas.{map_map}
 use Rattle.triple_rows.specs.Predicates.{Formula, Formulas, truth, atom, and_of, or_of, no_formula, one_more, IsOver, AreOver}
 use Rattle.triple_rows.specs.Systems.{PlainSystem, both_systems, only_rows, one_of, one_member, said, all_said, members_said, denied, all_denied, members_denied}
-use Rattle.frame_rows.specs.Rows.{renamed, equal_row}
-use Rattle.triple_rows.specs.Drafts.{stated}
-use Rattle.triple_rows.specs.Tables.{IsTable}
+use Rattle.letter_acts.specs.FrameRows.Rows.{renamed, equal_row}
+use Rattle.triple_rows.specs.Ties.Drafts.{stated}
+use Rattle.triple_rows.specs.Ties.Tables.{IsTable}
 
 renamed_same : (p q : ℕ → ℕ) (n : ℕ) (r : LinearRow) → IsBelow n r.terms → ((c : ℕ) → c < n → p c ≡ q c) → renamed p r ≡ renamed q r
 renamed_same p q n r b e = ap (λ (ts : List (ℕ × ℤ)). row_of ts r.kind r.bound) (same r.terms b)

@@ -9,8 +9,8 @@ use Rattle.boogie_tree.specs.declared.tree.Ty.TheVariants as types
 use Rattle.lin_rows.specs.Rows.{Holds}
 use Rattle.letter_acts.specs.Frames.{Columns, IsValue}
 use Rattle.letter_acts.specs.Invariant.{type_at}
-use Rattle.frame_rows.specs.Rows.{equal_row, bounds_of, bounds, types_of, types_at}
-use Rattle.frame_rows.proofs.RowLaws.{equal_holds, IsValueOf, bound_holds}
+use Rattle.letter_acts.specs.FrameRows.Rows.{equal_row, bounds_of, bounds, types_of, types_at}
+use Rattle.letter_acts.proofs.FrameRows.RowLaws.{equal_holds, IsValueOf, bound_holds}
 use Rattle.triple_rows.proofs.ListLaws.{all_joined, all_mapped, all_same, got_map, Image, map_got}
 
 -- ---- equal columns

@@ -15,7 +15,7 @@ use Rattle.lin_rows.proofs.NegatingLemmas.{negated_holds}
 use Rattle.triple_rows.specs.declared.predicates.PredNode.{PredNode}
 use Rattle.triple_rows.specs.Predicates.{Formula, Formulas, truth, atom, and_of, or_of, no_formula, one_more, FormulaHolds, AllHold, SomeHolds, IsOver, AreOver, IsTree, AreTrees, IsTruth, IsPredicate, HasInequalities, HaveInequalities, formula_of, SpellsPredicate}
 use Rattle.triple_rows.specs.Systems.{PlainSystem, Groups, plain_system, no_group, one_group, PlainMeets, GroupsMet, SomeMet, groups_joined, both_systems, all_systems, said, all_said, members_said, denied, all_denied, members_denied}
-use Rattle.frame_rows.specs.Rows.{renamed}
+use Rattle.letter_acts.specs.FrameRows.Rows.{renamed}
 use Rattle.triple_rows.proofs.ListLaws.{all_joined}
 use Rattle.triple_rows.proofs.FormulaLaws.{prefix_read}
 

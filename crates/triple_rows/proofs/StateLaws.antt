@@ -15,7 +15,7 @@ use Rattle.letter_acts.proofs.PointLemmas.{point_of-left, point_of-right, values
 use Rattle.triple_rows.specs.Systems.{after_column}
 use Rattle.triple_rows.proofs.ListLaws.{all_from, within, place_of_member, member_at}
 use Rattle.triple_rows.proofs.SaidLaws.{HasValues}
-use Rattle.frame_rows.proofs.RowLaws.{IsValueOf}
+use Rattle.letter_acts.proofs.FrameRows.RowLaws.{IsValueOf}
 use Rattle.triple_rows.proofs.RowLaws.{IsTyped, AreTyped}
 
 -- ---- states as lists

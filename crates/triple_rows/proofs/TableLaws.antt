@@ -9,8 +9,8 @@ use Rattle.nwa_base.specs.Members.{Member}
 use Rattle.letter_acts.specs.Invariant.{AreDistinct}
 use Rattle.letter_acts.proofs.ListLemmas.{below_or_from, same_or_not}
 use Rattle.triple_rows.specs.Systems.{after_column, call_column}
-use Rattle.triple_rows.specs.Tables.{IsTable}
-use Rattle.frame_rows.specs.Rows.{columns_from}
+use Rattle.triple_rows.specs.Ties.Tables.{IsTable}
+use Rattle.letter_acts.specs.FrameRows.Rows.{columns_from}
 use Rattle.triple_rows.proofs.ListLaws.{within, place_of_member}
 use Rattle.triple_rows.proofs.BackLaws.{call_first, call_second, call_helper}
 use Rattle.triple_rows.proofs.StateLaws.{after_written, after_other, written_or_not}

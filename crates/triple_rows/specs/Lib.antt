@@ -1,11 +1,8 @@
 pub mod Predicates
-pub mod Nodes
 pub mod Reading
 pub mod Systems
-pub mod Drafts
-pub mod Tables
-pub mod Known
 pub mod Triples
 pub mod Proofs
 pub mod Cuts
 pub mod Halves
+pub mod Ties

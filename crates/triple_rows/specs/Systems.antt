@@ -10,7 +10,7 @@ use Rattle.lin_rows.specs.Systems.{rows_of, groups_of}
 use Rattle.letter_acts.specs.Frames.{Columns, globals_of, constants_of, variables_of, result_columns, olds_of}
 use Rattle.letter_acts.specs.Reading.{taken, is_listed}
 use Rattle.letter_acts.specs.Invariant.{written_by}
-use Rattle.frame_rows.specs.Rows.{renamed, equal_row, bounds, types_of, types_at}
+use Rattle.letter_acts.specs.FrameRows.Rows.{renamed, equal_row, bounds, types_of, types_at}
 use Rattle.triple_rows.specs.Predicates.{Formula, Formulas, truth, atom, and_of, or_of, no_formula, one_more}
 
 -- ---- systems

@@ -6,7 +6,7 @@ ghost use Rattle.letter_acts.specs.Invariant.{AreDistinct};
 ghost use Rattle.triple_rows.specs.Predicates.{IsOver, HasInequalities, SpellsPredicate, bundled, formulas, formula_of};
 ghost use Rattle.triple_rows.specs.Reading.{AreComplete, IsRest};
 ghost use Rattle.triple_rows.specs.Systems.{PlainFits, MembersFit, one_of};
-ghost use Rattle.triple_rows.specs.Drafts.{Adds, stated, all_stated, members_stated};
+ghost use Rattle.triple_rows.specs.Ties.Drafts.{Adds, stated, all_stated, members_stated};
 
 use crate::drafts::Draft;
 use crate::predicates::{Pred, PredNode};

@@ -7,9 +7,9 @@ ghost use Rattle.letter_acts.specs.Frames.{globals_of, olds_of};
 ghost use Rattle.letter_acts.specs.Invariant.{AreDistinct, written_by};
 ghost use Rattle.triple_rows.specs.Predicates.{IsOver, SpellsPredicate, formula_of};
 ghost use Rattle.triple_rows.specs.Systems.{PlainFits, IsSystem, inside_system, call_system, back_system};
-ghost use Rattle.triple_rows.specs.Known.{TiesAreWithin, BackIsRead, AreReturnTables};
-ghost use Rattle.triple_rows.specs.Drafts.{Adds, AddsAll, return_ties};
-ghost use Rattle.triple_rows.specs.Tables.{IsTable};
+ghost use Rattle.triple_rows.specs.Ties.Known.{TiesAreWithin, BackIsRead, AreReturnTables};
+ghost use Rattle.triple_rows.specs.Ties.Drafts.{Adds, AddsAll, return_ties};
+ghost use Rattle.triple_rows.specs.Ties.Tables.{IsTable};
 
 use crate::adding::add_pred;
 use crate::drafts::Draft;
@@ -21,7 +21,7 @@ use crate::ties::{
     add_written_bounds,
 };
 use boogie_tree::{Column, VarInfo};
-use frame_rows::{Class, numbers_of};
+use letter_acts::frame_rows::{Class, numbers_of};
 use lin_rows::{Row, RowFault, System};
 use std::alloc::{AllocError, Global};
 

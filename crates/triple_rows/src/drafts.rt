@@ -13,7 +13,7 @@ pub(crate) struct Draft {
 
 impl Draft {
     ghost use Rattle.triple_rows.specs.Systems.{only_rows};
-    ghost use Rattle.triple_rows.specs.Drafts.{Adds};
+    ghost use Rattle.triple_rows.specs.Ties.Drafts.{Adds};
 
     /// A draft without rows and groups.
     pub(crate) fn new(alloc: Global) -> Self

@@ -4,7 +4,7 @@ ghost use Rattle.std.specs.Prelude.{◌≡◌, ℕ, ◌≤◌, ◌^◌, IfOk, ma
 ghost use Rattle.letter_acts.specs.Frames.{olds_of};
 ghost use Rattle.letter_acts.specs.Reading.{taken, is_listed};
 ghost use Rattle.letter_acts.specs.Invariant.{is_global_at};
-ghost use Rattle.triple_rows.specs.Tables.{old_global};
+ghost use Rattle.triple_rows.specs.Ties.Tables.{old_global};
 
 use boogie_tree::{Column, VarInfo};
 use std::alloc::{AllocError, Global};

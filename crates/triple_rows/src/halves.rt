@@ -5,10 +5,10 @@ ghost use Rattle.letter_acts.specs.Acts.{frame_of};
 ghost use Rattle.letter_acts.specs.Invariant.{alphabet_of};
 ghost use Rattle.triple_rows.specs.Predicates.{formula_of};
 ghost use Rattle.triple_rows.specs.Systems.{PlainFits, IsSystem, both_systems, said};
-ghost use Rattle.triple_rows.specs.Drafts.{Adds};
+ghost use Rattle.triple_rows.specs.Ties.Drafts.{Adds};
 ghost use Rattle.triple_rows.specs.Triples.{Agrees, IsScoped, truth_of};
 ghost use Rattle.triple_rows.specs.Halves.{said_before, said_after};
-ghost use Rattle.triple_rows.specs.Tables.{IsTable};
+ghost use Rattle.triple_rows.specs.Ties.Tables.{IsTable};
 
 use crate::adding::add_pred;
 use crate::drafts::Draft;

@@ -3,9 +3,9 @@
 ghost use Rattle.std.specs.Prelude.{◌≡◌, ◌<◌, IfOk, map, length, slice_index};
 ghost use Rattle.std.specs.List.{AllByRecursion};
 ghost use Rattle.lin_rows.specs.Rows.{IsRow};
-ghost use Rattle.frame_rows.specs.Rows.{equal_row};
+ghost use Rattle.letter_acts.specs.FrameRows.Rows.{equal_row};
 
-use frame_rows::equal_row;
+use letter_acts::frame_rows::equal_row;
 use lin_rows::Row;
 use std::alloc::{AllocError, Global};
 

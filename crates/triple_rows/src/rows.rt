@@ -5,9 +5,9 @@ ghost use Rattle.math_facts.specs.Terms.{IsBelow};
 ghost use Rattle.lin_rows.specs.Rows.{IsRow};
 ghost use Rattle.lin_rows.specs.Tightening.{never};
 ghost use Rattle.letter_acts.specs.Invariant.{AreDistinct};
-ghost use Rattle.triple_rows.specs.Drafts.{stated_row};
+ghost use Rattle.triple_rows.specs.Ties.Drafts.{stated_row};
 
-use frame_rows::{fitting_row, renamed_row};
+use letter_acts::frame_rows::{fitting_row, renamed_row};
 use lin_rows::{Row, RowFault, RowKind, negate};
 use std::alloc::{AllocError, Global};
 

@@ -4,9 +4,9 @@ ghost use Rattle.std.specs.Prelude.{◌≡◌, ℕ, ◌+◌, ◌<◌, ◌≤◌,
 ghost use Rattle.std.specs.List.{AllByRecursion};
 ghost use Rattle.letter_acts.specs.Invariant.{AreDistinct};
 ghost use Rattle.triple_rows.specs.Systems.{after_column, call_column};
-ghost use Rattle.triple_rows.specs.Tables.{IsTable};
+ghost use Rattle.triple_rows.specs.Ties.Tables.{IsTable};
 
-use frame_rows::add_columns;
+use letter_acts::frame_rows::add_columns;
 use std::alloc::{AllocError, Global};
 
 /// The table of so many columns that stand from a number on.

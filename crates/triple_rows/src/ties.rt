@@ -7,15 +7,15 @@ ghost use Rattle.letter_acts.specs.Frames.{places, olds_of, variables_of, result
 ghost use Rattle.letter_acts.specs.Reading.{taken, is_listed};
 ghost use Rattle.letter_acts.specs.Invariant.{AreDistinct};
 ghost use Rattle.triple_rows.specs.Systems.{PlainFits, only_rows};
-ghost use Rattle.frame_rows.specs.Rows.{renamed, equal_row, bounds, types_of, types_at};
-ghost use Rattle.frame_rows.specs.Frames.{is_of};
-ghost use Rattle.triple_rows.specs.Drafts.{Adds};
+ghost use Rattle.letter_acts.specs.FrameRows.Rows.{renamed, equal_row, bounds, types_of, types_at};
+ghost use Rattle.letter_acts.specs.FrameRows.Frames.{is_of};
+ghost use Rattle.triple_rows.specs.Ties.Drafts.{Adds};
 
 use crate::drafts::Draft;
 use crate::frames::{doubled, olds, taken, unlisted};
 use crate::pieces::equal_rows;
 use boogie_tree::{Column, VarInfo};
-use frame_rows::{Class, bound_rows, numbers_of, renamed_rows, types_at, types_of};
+use letter_acts::frame_rows::{Class, bound_rows, numbers_of, renamed_rows, types_at, types_of};
 use lin_rows::{Row, copied_rows};
 use std::alloc::{AllocError, Global};
 

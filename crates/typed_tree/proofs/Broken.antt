@@ -16,7 +16,7 @@ use Rattle.typed_tree.specs.AffineForm.{form, forms_fit, form_fits, fits, diviso
 use Rattle.typed_tree.specs.Divided.{is_divided, is_divided_operation}
 use Rattle.typed_tree.specs.KeptRules.{keeps_rules}
 use Rattle.typed_tree.specs.BrokenRules.{IsBroken, in_old, in_not, in_neg, in_left, in_right, unseen, misplaced, no_truth, no_number, ill_typed, zero_divisor, no_literal, big_literal, big_opposite, big_operation, is_division}
-use Rattle.typed_tree.specs.FormView.{IsPartFault}
+use Rattle.typed_tree.specs.Ties.FormView.{IsPartFault}
 
 -- ---- a typed expression has typed operands
 

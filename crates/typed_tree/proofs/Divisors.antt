@@ -13,7 +13,7 @@ use Rattle.typed_tree.specs.TypedTree.{TypedExpression}
 use Rattle.typed_tree.specs.TypedView.{kind_view, expression}
 use Rattle.typed_tree.specs.AffineForm.{form_is_zero, divisor_of, is_divisor, fits}
 use Rattle.typed_tree.specs.BrokenRules.{expression_span}
-use Rattle.typed_tree.specs.BrokenOperation.{zero_literal, divisor_fault}
+use Rattle.typed_tree.specs.Ties.BrokenOperation.{zero_literal, divisor_fault}
 
 pub is_zero_opposite : (z : ℤ) → form_is_zero (neg_ℤ z) ≡ form_is_zero z
 is_zero_opposite (pos zero) = refl

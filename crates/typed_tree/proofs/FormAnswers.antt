@@ -10,8 +10,8 @@ use Rattle.typed_tree.specs.declared.fault.AffineFault.{AffineFault}
 use Rattle.typed_tree.specs.declared.fault.AffineFault.TheVariants as affine
 use Rattle.typed_tree.specs.TypedTree.{TypedExpression, Not, Neg, Bin}
 use Rattle.typed_tree.specs.AffineForm.{Form, form, forms_fit, form_fits, fits, form_times, operation}
-use Rattle.typed_tree.specs.FormOrder.{terms_fit}
-use Rattle.typed_tree.specs.FormView.{form_of, IsForm, IsFormAnswer}
+use Rattle.typed_tree.specs.Ties.FormOrder.{terms_fit}
+use Rattle.typed_tree.specs.Ties.FormView.{form_of, IsForm, IsFormAnswer}
 
 left_fails : (x y : Bool) → x ≡ false → (x && y) ≡ false
 left_fails x y h = ap (λ (b : Bool). b && y) h

@@ -11,9 +11,9 @@ use Rattle.typed_tree.specs.declared.fault.AffineFault.{AffineFault}
 use Rattle.typed_tree.specs.declared.fault.AffineFault.TheVariants as affine
 use Rattle.typed_tree.specs.TypedTree.{TypedExpression, Lit, Truth, Var, Old, Not, Neg, Bin}
 use Rattle.typed_tree.specs.AffineForm.{Form, form, is_linear, is_linear_operation, forms_fit, form_fits, fits, form_times, form_scaled, form_number, form_plus, form_quotient, product, operation, form_is_zero, is_constant, is_affine, is_affine_operator}
-use Rattle.typed_tree.specs.FormOrder.{terms_fit}
+use Rattle.typed_tree.specs.Ties.FormOrder.{terms_fit}
 use Rattle.typed_tree.specs.Scope.{is_constant_column}
-use Rattle.typed_tree.specs.FormView.{form_of, IsForm, IsFormAnswer}
+use Rattle.typed_tree.specs.Ties.FormView.{form_of, IsForm, IsFormAnswer}
 use Rattle.typed_tree.proofs.FormValues.{factor_of}
 
 -- ---- no quotient stands in an affine form

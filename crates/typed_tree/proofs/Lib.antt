@@ -11,3 +11,4 @@ pub mod Euclidean
 mod Copied
 mod FormAnswers
 mod Sums
+pub mod TypingRules

@@ -5,8 +5,8 @@ use Rattle.std.proofs.lemmas.Bool.{and_parts, and_from, and_left, and_right, bot
 use Rattle.std.proofs.lemmas.List.Folds.{list_all-append}
 use Rattle.boogie_tree.specs.declared.tree.Column.{Column}
 use Rattle.typed_tree.specs.AffineForm.{is_before, form_is_zero, form_led_by, form_added_at, added_to, fits}
-use Rattle.typed_tree.specs.FormOrder.{stands_before, ascends, terms_fit}
-use Rattle.typed_tree.specs.Merging.{kept, put, AreTerms, IsFront}
+use Rattle.typed_tree.specs.Ties.FormOrder.{stands_before, ascends, terms_fit}
+use Rattle.typed_tree.specs.Ties.Merging.{kept, put, AreTerms, IsFront}
 use Rattle.typed_tree.specs.declared.merging.Front.{Front}
 use Rattle.typed_tree.proofs.ColumnOrder.{before_one_way, same_place, before_trans}
 

@@ -17,9 +17,9 @@ use Rattle.typed_tree.specs.Typing.{operation_type}
 use Rattle.typed_tree.specs.AffineForm.{Form, form, forms_fit, form_fits, fits, form_is_zero, divisor_of, is_divisor, form_times, operation}
 use Rattle.typed_tree.specs.Divided.{is_divided, is_divided_operation}
 use Rattle.typed_tree.specs.BrokenRules.{IsBroken, in_old, in_not, in_neg, in_left, in_right, no_truth, no_number, ill_typed, zero_divisor, no_literal, big_opposite, big_operation, IsFault, is_division}
-use Rattle.typed_tree.specs.FormOrder.{terms_fit}
-use Rattle.typed_tree.specs.FormView.{form_of, IsPart, IsPartFault, IsAnswer}
-use Rattle.typed_tree.specs.BrokenOperation.{divisor_fault, zero_literal}
+use Rattle.typed_tree.specs.Ties.FormOrder.{terms_fit}
+use Rattle.typed_tree.specs.Ties.FormView.{form_of, IsPart, IsPartFault, IsAnswer}
+use Rattle.typed_tree.specs.Ties.BrokenOperation.{divisor_fault, zero_literal}
 
 -- ---- faults of operands
 

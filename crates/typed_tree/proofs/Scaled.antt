@@ -7,8 +7,8 @@ use Rattle.std.proofs.lemmas.List.{take_more, map-append}
 use Rattle.std.proofs.lemmas.List.Folds.{list_all-append, list_all-map, list_all_at}
 use Rattle.boogie_tree.specs.declared.tree.Column.{Column}
 use Rattle.typed_tree.specs.AffineForm.{Form, is_before, fits, form_fits, form_scaled}
-use Rattle.typed_tree.specs.FormOrder.{stands_before, ascends, terms_fit}
-use Rattle.typed_tree.specs.Merging.{AreTerms}
+use Rattle.typed_tree.specs.Ties.FormOrder.{stands_before, ascends, terms_fit}
+use Rattle.typed_tree.specs.Ties.Merging.{AreTerms}
 
 -- the first elements of a list, each changed, and each passing
 pub record IsChanged {X : Type 0} (f : X → X) (p : X → Bool) (xs : List X) (i : ℕ) (out : List X) : Type 0 where

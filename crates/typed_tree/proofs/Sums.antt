@@ -4,7 +4,7 @@ use Rattle.std.specs.List.{list_all}
 use Rattle.std.proofs.lemmas.Bool.{and_from}
 use Rattle.std.proofs.lemmas.List.Folds.{list_all-append}
 use Rattle.typed_tree.specs.AffineForm.{Form, form_fits, fits}
-use Rattle.typed_tree.specs.FormOrder.{terms_fit}
+use Rattle.typed_tree.specs.Ties.FormOrder.{terms_fit}
 
 first_fails : (x y : Bool) → x ≡ false → (x && y) ≡ false
 first_fails x y h = ap (λ (b : Bool). b && y) h

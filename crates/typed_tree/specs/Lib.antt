@@ -7,8 +7,6 @@ pub mod Divided
 pub mod Values
 pub mod KeptRules
 pub mod BrokenRules
-pub mod FormOrder
-pub mod FormView
-pub mod BrokenOperation
-pub mod Merging
 pub mod Laws
+pub mod TypingRules
+pub mod Ties

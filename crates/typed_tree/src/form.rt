@@ -1,7 +1,7 @@
 ghost use Rattle.std.specs.Prelude.{◌≡◌, true, ◌&&◌};
 ghost use Rattle.std.specs.List.{list_all};
 ghost use Rattle.typed_tree.specs.AffineForm.{fits};
-ghost use Rattle.typed_tree.specs.FormOrder.{ascends, terms_fit};
+ghost use Rattle.typed_tree.specs.Ties.FormOrder.{ascends, terms_fit};
 
 use boogie_tree::Column;
 use smallvec::SmallVec;
@@ -28,7 +28,7 @@ pub struct Form {
 impl Form {
     ghost use Rattle.std.specs.Prelude.{IfOk};
     ghost use Rattle.typed_tree.specs.AffineForm.{form_number, once, form_quotient, is_constant};
-    ghost use Rattle.typed_tree.specs.FormView.{form_of};
+    ghost use Rattle.typed_tree.specs.Ties.FormView.{form_of};
 
     /// A number.
     pub fn number(alloc: Global, n: i128) -> Self

@@ -3,8 +3,8 @@
 ghost use Rattle.std.specs.Prelude.{◌≡◌, true, false, pos, negsuc, [], Err, IfOk, IsOk};
 ghost use Rattle.typed_tree.specs.TypedView.{expression};
 ghost use Rattle.typed_tree.specs.AffineForm.{form, is_affine, is_constant, is_linear, forms_fit, form_fits, form_number, form_times, operation};
-ghost use Rattle.typed_tree.specs.FormView.{IsFormAnswer};
-ghost use Rattle.typed_tree.specs.FormView.{form_of as form_view};
+ghost use Rattle.typed_tree.specs.Ties.FormView.{IsFormAnswer};
+ghost use Rattle.typed_tree.specs.Ties.FormView.{form_of as form_view};
 ghost use Rattle.typed_tree.specs.Scope.{is_constant_column};
 
 use crate::columns::form_column;

@@ -14,6 +14,7 @@ mod scope;
 pub mod signatures;
 mod types;
 mod typing;
+pub mod typing_rules;
 
 pub use boogie_tree::{Column, Op, Span, Text, Ty, VarInfo};
 pub use fault::{AffineFault, TypeFault};

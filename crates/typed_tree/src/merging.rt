@@ -2,8 +2,8 @@
 
 ghost use Rattle.std.specs.Prelude.{◌≡◌, ◌++◌, [], ◌∷◌, false, Ok, None, Err, IfOk, IsErr, OnOk, IfSome};
 ghost use Rattle.typed_tree.specs.AffineForm.{added_to};
-ghost use Rattle.typed_tree.specs.FormOrder.{ascends, terms_fit};
-ghost use Rattle.typed_tree.specs.Merging.{kept, put, AreTerms, IsFront};
+ghost use Rattle.typed_tree.specs.Ties.FormOrder.{ascends, terms_fit};
+ghost use Rattle.typed_tree.specs.Ties.Merging.{kept, put, AreTerms, IsFront};
 
 use crate::columns::is_before;
 use crate::fault::AffineFault;

@@ -3,9 +3,9 @@
 ghost use Rattle.std.specs.Prelude.{◌≡◌, ◌*ℤ◌, Bool, true, false, map, Err, IfOk, IsErr};
 ghost use Rattle.std.specs.List.{list_all};
 ghost use Rattle.typed_tree.specs.AffineForm.{fits, form_fits, form_plus, form_times, form_scaled, product, operation};
-ghost use Rattle.typed_tree.specs.FormOrder.{terms_fit};
-ghost use Rattle.typed_tree.specs.FormView.{form_of};
-ghost use Rattle.typed_tree.specs.Merging.{AreTerms};
+ghost use Rattle.typed_tree.specs.Ties.FormOrder.{terms_fit};
+ghost use Rattle.typed_tree.specs.Ties.FormView.{form_of};
+ghost use Rattle.typed_tree.specs.Ties.Merging.{AreTerms};
 
 use crate::fault::AffineFault;
 use crate::form::{Form, Quotients, Terms};

@@ -8,10 +8,10 @@ ghost use Rattle.typed_tree.specs.Scope.{seen, variable_at, fixed};
 ghost use Rattle.typed_tree.specs.Typing.{type_of, operand_type, result_type, operation_type};
 ghost use Rattle.typed_tree.specs.KeptRules.{is_arithmetic, keeps_rules};
 ghost use Rattle.typed_tree.specs.BrokenRules.{IsFault};
-ghost use Rattle.typed_tree.specs.FormView.{form_of, IsAnswer, IsNotAnswer, IsNegAnswer, IsOperationAnswer};
+ghost use Rattle.typed_tree.specs.Ties.FormView.{form_of, IsAnswer, IsNotAnswer, IsNegAnswer, IsOperationAnswer};
 ghost use Rattle.typed_tree.specs.AffineForm.{divisor_of, is_divisor};
 ghost use Rattle.typed_tree.specs.Divided.{is_divided_operation};
-ghost use Rattle.typed_tree.specs.BrokenOperation.{zero_literal, divisor_fault};
+ghost use Rattle.typed_tree.specs.Ties.BrokenOperation.{zero_literal, divisor_fault};
 
 use crate::columns::form_column;
 use crate::fault::{AffineFault, TypeFault};

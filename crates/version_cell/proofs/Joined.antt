@@ -7,7 +7,7 @@ use Rattle.race_core.specs.declared.events.Entry.{Entry}
 use Rattle.version_cell.specs.declared.board.Sight.{Sight}
 use Rattle.version_cell.specs.Counts.{times, count, Begins}
 use Rattle.version_cell.specs.Views.{first_of, picks_first, both_of}
-use Rattle.version_cell.specs.Rule.{IsLive}
+use Rattle.version_cell.specs.Ties.Rule.{IsLive}
 use Rattle.version_cell.proofs.Sums.{times_either, none_some}
 use Rattle.version_cell.proofs.Beginnings.{begins_same, begins_along, begins_length, one_begins}
 

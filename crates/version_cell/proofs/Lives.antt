@@ -9,7 +9,7 @@ use Rattle.race_core.specs.Races.{Race}
 use Rattle.version_cell.specs.declared.board.Held.{Held}
 use Rattle.version_cell.specs.declared.board.Sight.{Sight}
 use Rattle.version_cell.specs.Views.{holding, held_of, with_entry, informed, with_end, lessened, part_of}
-use Rattle.version_cell.specs.Rule.{IsLive, IsAt}
+use Rattle.version_cell.specs.Ties.Rule.{IsLive, IsAt}
 use Rattle.version_cell.proofs.Sums.{times_last, none_some, some_is}
 use Rattle.version_cell.proofs.Beginnings.{begins_none, begins_same, begins_along, begins_more, begins_length}
 

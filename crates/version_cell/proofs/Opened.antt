@@ -10,8 +10,8 @@ use Rattle.atomic_table.specs.Seated.{TableId}
 use Rattle.atomic_table.specs.Table.{Me, opening}
 use Rattle.version_cell.specs.declared.board.Sight.{Sight}
 use Rattle.version_cell.specs.Counts.{once_below}
-use Rattle.version_cell.specs.Plays.{IsIdle}
-use Rattle.version_cell.specs.Rule.{IsLive, Fits, RuleIsKept}
+use Rattle.version_cell.specs.Ties.Plays.{IsIdle}
+use Rattle.version_cell.specs.Ties.Rule.{IsLive, Fits, RuleIsKept}
 use Rattle.version_cell.specs.Views.{first_sight}
 use Rattle.version_cell.specs.Passes.{known, IsTable, IsValid}
 use Rattle.version_cell.proofs.Sums.{none_some}

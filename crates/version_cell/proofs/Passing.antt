@@ -12,7 +12,7 @@ use Rattle.race_core.specs.Races.{Race}
 use Rattle.race_core.specs.Steps.{staleness, publish_refusal, finish_refusal}
 use Rattle.version_cell.specs.declared.board.Sight.{Sight}
 use Rattle.version_cell.specs.Counts.{times, once_below, Begins}
-use Rattle.version_cell.specs.Plays.{IsIdle, GoesOn, Grows, Closes}
+use Rattle.version_cell.specs.Ties.Plays.{IsIdle, GoesOn, Grows, Closes}
 use Rattle.version_cell.specs.Views.{holding, informed, with_entry, with_end}
 use Rattle.version_cell.specs.Passes.{Known, known, IsTable, IsValid, WasAt, shown, owning, ending, Names}
 use Rattle.version_cell.proofs.Sums.{times_last, times_once, some_is, none_some}

@@ -11,7 +11,7 @@ use Rattle.race_core.specs.Steps.{finish_refusal}
 use Rattle.atomic_table.specs.Seated.{TableId}
 use Rattle.atomic_table.specs.Table.{Me}
 use Rattle.version_cell.specs.declared.board.Sight.{Sight}
-use Rattle.version_cell.specs.Plays.{IsIdle, GoesOn, Holds}
+use Rattle.version_cell.specs.Ties.Plays.{IsIdle, GoesOn, Holds}
 use Rattle.version_cell.specs.Views.{holding, informed, with_end}
 use Rattle.version_cell.specs.Passes.{Cell, Known, known, IsTable, IsPassOf, IsValid, shown, owning, ending, Names}
 use Rattle.version_cell.proofs.Passing.{valid_shown, valid_ending, keeps_pass, shown_is, ending_is, finish_names}

@@ -10,7 +10,7 @@ use Rattle.version_cell.specs.declared.board.Held.{Held}
 use Rattle.version_cell.specs.declared.board.Sight.{Sight}
 use Rattle.version_cell.specs.Counts.{total, times, once_below, count}
 use Rattle.version_cell.specs.Views.{nobody, lessened, part_of, both_of}
-use Rattle.version_cell.specs.Rule.{IsLive, Fits, Views}
+use Rattle.version_cell.specs.Ties.Rule.{IsLive, Fits, Views}
 use Rattle.version_cell.proofs.Sums.{total_set, total_one, total_two, total_append, total_only, times_append, count_one, count_none, count_most}
 use Rattle.version_cell.proofs.Lives.{live_lessened, live_part}
 use Rattle.version_cell.proofs.Joined.{live_both, first_count}

@@ -14,8 +14,8 @@ use Rattle.atomic_table.proofs.Lists.{set_again}
 use Rattle.version_cell.specs.declared.board.Sight.{Sight}
 use Rattle.version_cell.specs.Counts.{times, once_below, count}
 use Rattle.version_cell.specs.Views.{nobody, held_of, holding, with_entry, informed, with_end, lessened, part_of, both_of}
-use Rattle.version_cell.specs.Rule.{Views, IsAt, Slot, RuleIsKept}
-use Rattle.version_cell.specs.Plays.{IsIdle, IsAllOwn, GoesOn, Holds, Grows, Closes, won, bumped, released, finished, looked}
+use Rattle.version_cell.specs.Ties.Rule.{Views, IsAt, Slot, RuleIsKept}
+use Rattle.version_cell.specs.Ties.Plays.{IsIdle, IsAllOwn, GoesOn, Holds, Grows, Closes, won, bumped, released, finished, looked}
 use Rattle.atomic_table.specs.Seated.{TableId}
 use Rattle.version_cell.specs.Passes.{known, IsClosed}
 use Rattle.version_cell.proofs.Sums.{total_one, once_most, own_more, count_one, count_none, some_is}

@@ -60,7 +60,7 @@ pub struct Turns<E> {
 }
 
 impl<E: Evidence> TableRule<Option<Shared<E>>, Sight<E>, Terms> for Turns<E> {
-    ghost use Rattle.version_cell.specs.Rule.{RuleIsKept};
+    ghost use Rattle.version_cell.specs.Ties.Rule.{RuleIsKept};
     ghost use Rattle.version_cell.specs.Views.{first_sight};
 
     ghost holds = { λ key. RuleIsKept key.program.value key.limit key.total };
@@ -78,7 +78,7 @@ pub(crate) type Place<E> = Seat<Option<Shared<E>>, Sight<E>>;
 pub(crate) struct Win;
 
 impl<E: Evidence> Play<Option<Shared<E>>, Sight<E>> for Win {
-    ghost use Rattle.version_cell.specs.Plays.{won};
+    ghost use Rattle.version_cell.specs.Ties.Plays.{won};
 
     ghost then = { won };
 }
@@ -87,7 +87,7 @@ impl<E: Evidence> Play<Option<Shared<E>>, Sight<E>> for Win {
 pub(crate) struct Bump;
 
 impl<E: Evidence> Play<Option<Shared<E>>, Sight<E>> for Bump {
-    ghost use Rattle.version_cell.specs.Plays.{bumped};
+    ghost use Rattle.version_cell.specs.Ties.Plays.{bumped};
 
     ghost then = { bumped };
 }
@@ -96,7 +96,7 @@ impl<E: Evidence> Play<Option<Shared<E>>, Sight<E>> for Bump {
 pub(crate) struct Release;
 
 impl<E: Evidence> Play<Option<Shared<E>>, Sight<E>> for Release {
-    ghost use Rattle.version_cell.specs.Plays.{released};
+    ghost use Rattle.version_cell.specs.Ties.Plays.{released};
 
     ghost then = { released };
 }
@@ -105,7 +105,7 @@ impl<E: Evidence> Play<Option<Shared<E>>, Sight<E>> for Release {
 pub(crate) struct Finish;
 
 impl<E: Evidence> Play<Option<Shared<E>>, Sight<E>> for Finish {
-    ghost use Rattle.version_cell.specs.Plays.{finished};
+    ghost use Rattle.version_cell.specs.Ties.Plays.{finished};
 
     ghost then = { finished };
 }
@@ -114,7 +114,7 @@ impl<E: Evidence> Play<Option<Shared<E>>, Sight<E>> for Finish {
 pub(crate) struct Look;
 
 impl<E: Evidence> Play<Option<Shared<E>>, Sight<E>> for Look {
-    ghost use Rattle.version_cell.specs.Plays.{looked};
+    ghost use Rattle.version_cell.specs.Ties.Plays.{looked};
 
     ghost then = { looked };
 }

@@ -10,7 +10,7 @@ pub struct Pass<E: Evidence> {
 
 impl<E: Evidence> Model for Pass<E> {
     ghost use Rattle.std.specs.Prelude.{◌≤◌};
-    ghost use Rattle.version_cell.specs.Plays.{IsIdle};
+    ghost use Rattle.version_cell.specs.Ties.Plays.{IsIdle};
     ghost use Rattle.version_cell.specs.Passes.{Known, known, IsTable, IsValid};
 
     ghost Value = { Known E };

@@ -6,7 +6,7 @@ ghost use Rattle.race_core.specs.Ends.{kind_in};
 ghost use Rattle.race_core.specs.Histories.{IsFair, IsLegal};
 ghost use Rattle.race_core.specs.Steps.{publish_refusal, finish_refusal};
 ghost use Rattle.version_cell.specs.Views.{holding, with_entry, informed, with_end};
-ghost use Rattle.version_cell.specs.Plays.{IsIdle, GoesOn, Holds, Grows, Closes};
+ghost use Rattle.version_cell.specs.Ties.Plays.{IsIdle, GoesOn, Holds, Grows, Closes};
 ghost use Rattle.version_cell.specs.Passes.{IsTable};
 
 use crate::board::{Board, Bump, Finish, Place, Release, Win};

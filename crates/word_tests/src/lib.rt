@@ -3,3 +3,4 @@
 
 #[cfg(test)]
 mod cells;
+pub mod command_tests;

@@ -4,11 +4,11 @@ ghost use Rattle.std.specs.Prelude.{◌≡◌, ◌++◌, ◌∷◌, [], IfErr, O
 ghost use Rattle.boogie_tree.specs.declared.tree.Stmt.TheVariants as stmts;
 ghost use Rattle.boogie_parse.specs.declared.fault.Fault.TheVariants as faults;
 ghost use Rattle.boogie_tree.specs.View as view;
-ghost use Rattle.boogie_parse.specs.ListReading as list;
-ghost use Rattle.boogie_parse.specs.StatementReading as spec;
+ghost use Rattle.boogie_parse.specs.Reading.ListReading as list;
+ghost use Rattle.boogie_parse.specs.Reading.StatementReading as spec;
 ghost use Rattle.boogie_parse.specs.declared.symbols.Fixed.TheVariants as fixed;
-ghost use Rattle.boogie_parse.specs.StatementViews.{inside, block_of, Adds, AddsIf};
-ghost use Rattle.boogie_parse.specs.ListViews.{Gives, found, items_as};
+ghost use Rattle.boogie_parse.specs.Ties.StatementViews.{inside, block_of, Adds, AddsIf};
+ghost use Rattle.boogie_parse.specs.Reading.ListViews.{Gives, found, items_as};
 
 use super::lists::seen;
 use super::parser::{Parser, past_limit};
@@ -104,7 +104,7 @@ impl Parser {
 
     /// A branch, behind its `if`.
     #[cycle(statements)]
-    #[tactic(auto, unfolding(crate::specs::StatementReading::branch_by))]
+    #[tactic(auto, unfolding(crate::specs::Reading::StatementReading::branch_by))]
     fn branch<'a>(
         &self,
         blocks: u8,
@@ -127,7 +127,7 @@ impl Parser {
 
     /// A loop, behind its `while`.
     #[cycle(statements)]
-    #[tactic(auto, unfolding(crate::specs::StatementReading::loop_at))]
+    #[tactic(auto, unfolding(crate::specs::Reading::StatementReading::loop_at))]
     fn looped<'a>(
         &self,
         blocks: u8,

@@ -2,8 +2,8 @@
 
 ghost use Rattle.std.specs.Prelude.{◌≡◌};
 ghost use Rattle.boogie_tree.specs.View as view;
-ghost use Rattle.boogie_parse.specs.ListReading as spec;
-ghost use Rattle.boogie_parse.specs.ListViews.{Gives, found, found_if, items_as};
+ghost use Rattle.boogie_parse.specs.Reading.ListReading as spec;
+ghost use Rattle.boogie_parse.specs.Reading.ListViews.{Gives, found, found_if, items_as};
 
 use super::blocks::there;
 use super::lists::seen;
@@ -15,7 +15,7 @@ use boogie_tree::{Expr, Guard, Inv, Span};
 
 impl Parser {
     /// The arguments of a call.
-    #[tactic(auto, unfolding(crate::specs::ListReading::arguments_at))]
+    #[tactic(auto, unfolding(crate::specs::Reading::ListReading::arguments_at))]
     pub(crate) fn arguments<'a>(
         &self,
         symbols: &'a [Symbol],
@@ -32,7 +32,7 @@ impl Parser {
     }
 
     /// The guard of a branch or a loop.
-    #[tactic(auto, unfolding(crate::specs::ListReading::guard_at))]
+    #[tactic(auto, unfolding(crate::specs::Reading::ListReading::guard_at))]
     pub(crate) fn guard<'a>(&self, symbols: &'a [Symbol]) -> Result<(Guard, &'a [Symbol]), Fault>
         ensures { Gives (found view.guard) result
             (spec.guard_at (spec.expression_at self.now.end) self.now.end 200 symbols.now) }
@@ -46,7 +46,7 @@ impl Parser {
     }
 
     /// An expression, up to its semicolon.
-    #[tactic(auto, unfolding(crate::specs::ListReading::claim_at))]
+    #[tactic(auto, unfolding(crate::specs::Reading::ListReading::claim_at))]
     pub(crate) fn claim<'a>(&self, symbols: &'a [Symbol]) -> Result<(Expr, &'a [Symbol]), Fault>
         ensures { Gives (found view.expression) result
             (spec.claim_at (spec.expression_at self.now.end) self.now.end 200 symbols.now) }
@@ -56,7 +56,7 @@ impl Parser {
     }
 
     /// A condition, behind its word that stands there.
-    #[tactic(auto, unfolding(crate::specs::ListReading::condition_behind))]
+    #[tactic(auto, unfolding(crate::specs::Reading::ListReading::condition_behind))]
     pub(crate) fn condition<'a>(
         &self,
         free: bool,
@@ -84,7 +84,7 @@ impl Parser {
     }
 
     /// An invariant, if one stands there.
-    #[tactic(auto, unfolding(crate::specs::ListReading::invariant_at))]
+    #[tactic(auto, unfolding(crate::specs::Reading::ListReading::invariant_at))]
     fn invariant<'a>(&self, symbols: &'a [Symbol]) -> Result<Option<(Inv, &'a [Symbol])>, Fault>
         ensures { Gives (found_if view.invariant) result
             (spec.invariant_at (spec.expression_at self.now.end) self.now.end 200 symbols.now) }

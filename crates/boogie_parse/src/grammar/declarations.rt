@@ -3,11 +3,11 @@
 ghost use Rattle.std.specs.Prelude.{◌≡◌, map, [], ◌∷◌, IfOk};
 ghost use Rattle.boogie_tree.specs.View as view;
 ghost use Rattle.boogie_tree.specs.Tree as tree;
-ghost use Rattle.boogie_parse.specs.ListReading as list;
-ghost use Rattle.boogie_parse.specs.GrammarProgram as grammar;
-ghost use Rattle.boogie_parse.specs.ProgramReading as spec;
-ghost use Rattle.boogie_parse.specs.ProgramViews.{head};
-ghost use Rattle.boogie_parse.specs.ListViews.{Gives, found, found_if, items, items_as};
+ghost use Rattle.boogie_parse.specs.Reading.ListReading as list;
+ghost use Rattle.boogie_parse.specs.Rules.GrammarProgram as grammar;
+ghost use Rattle.boogie_parse.specs.Reading.ProgramReading as spec;
+ghost use Rattle.boogie_parse.specs.Ties.ProgramViews.{head};
+ghost use Rattle.boogie_parse.specs.Reading.ListViews.{Gives, found, found_if, items, items_as};
 
 use super::blocks::there;
 use super::lists::seen;
@@ -97,7 +97,7 @@ pub(super) fn alone(alloc: Global, declaration: Decl) -> Result<Vec<Decl>, Alloc
 
 impl Parser {
     /// The locals of one `var`, if it stands there, so many at most.
-    #[tactic(auto, unfolding(crate::specs::ProgramReading::local_at))]
+    #[tactic(auto, unfolding(crate::specs::Reading::ProgramReading::local_at))]
     fn local<'a>(
         &self,
         room: usize,
@@ -134,7 +134,7 @@ impl Parser {
     }
 
     /// A modifies list, behind its word.
-    #[tactic(auto, unfolding(crate::specs::ProgramReading::modifies_at))]
+    #[tactic(auto, unfolding(crate::specs::Reading::ProgramReading::modifies_at))]
     fn modifies<'a>(&self, symbols: &'a [Symbol]) -> Result<(Spec, &'a [Symbol]), Fault>
         ensures { Gives (found view.specification) result (spec.modifies_at self.now.end symbols.now) }
     {
@@ -145,7 +145,7 @@ impl Parser {
         Ok((Spec::Modifies(names), rest))
     }
 
-    #[tactic(auto, unfolding(crate::specs::ProgramReading::requires_at))]
+    #[tactic(auto, unfolding(crate::specs::Reading::ProgramReading::requires_at))]
     fn requirement<'a>(
         &self,
         free: bool,
@@ -159,7 +159,7 @@ impl Parser {
         Ok((Spec::Requires(condition), rest))
     }
 
-    #[tactic(auto, unfolding(crate::specs::ProgramReading::ensures_at))]
+    #[tactic(auto, unfolding(crate::specs::Reading::ProgramReading::ensures_at))]
     fn assurance<'a>(
         &self,
         free: bool,
@@ -174,7 +174,7 @@ impl Parser {
     }
 
     /// A requires or an ensures, if it stands there.
-    #[tactic(auto, unfolding(crate::specs::ProgramReading::claimed_at))]
+    #[tactic(auto, unfolding(crate::specs::Reading::ProgramReading::claimed_at))]
     fn claimed<'a>(
         &self,
         free: bool,
@@ -193,7 +193,7 @@ impl Parser {
     }
 
     /// A requires or an ensures, which must stand there and is free.
-    #[tactic(auto, unfolding(crate::specs::ProgramReading::free_at))]
+    #[tactic(auto, unfolding(crate::specs::Reading::ProgramReading::free_at))]
     fn free_claim<'a>(&self, symbols: &'a [Symbol]) -> Result<Option<(Spec, &'a [Symbol])>, Fault>
         ensures { Gives (found_if view.specification) result
             (spec.free_at (list.expression_at self.now.end) self.now.end 200 symbols.now) }
@@ -205,7 +205,7 @@ impl Parser {
     }
 
     /// A specification, if one stands there.
-    #[tactic(auto, unfolding(crate::specs::ProgramReading::specification_at))]
+    #[tactic(auto, unfolding(crate::specs::Reading::ProgramReading::specification_at))]
     fn specification<'a>(
         &self,
         symbols: &'a [Symbol],
@@ -245,7 +245,7 @@ impl Parser {
     }
 
     /// A body, with so many locals at most.
-    #[tactic(auto, unfolding(crate::specs::ProgramReading::body_at))]
+    #[tactic(auto, unfolding(crate::specs::Reading::ProgramReading::body_at))]
     pub(super) fn body<'a>(
         &self,
         room: usize,
@@ -261,7 +261,7 @@ impl Parser {
     }
 
     /// The front of a procedure or an implementation, behind its word.
-    #[tactic(auto, unfolding(crate::specs::ProgramReading::head_at))]
+    #[tactic(auto, unfolding(crate::specs::Reading::ProgramReading::head_at))]
     pub(super) fn head<'a>(
         &self,
         span: Span,

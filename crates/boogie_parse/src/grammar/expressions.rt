@@ -5,10 +5,10 @@ pub(crate) mod operators;
 
 ghost use Rattle.std.specs.Prelude.{◌≡◌, ◌<◌, ◌≤◌, ◌-◌, nat_eq, nat_le, IfOk};
 ghost use Rattle.boogie_tree.specs.declared.level.Level.TheVariants as levels;
-ghost use Rattle.boogie_parse.specs.GrammarLimits.{depth as depth_of};
-ghost use Rattle.boogie_parse.specs.Outcomes.{place_or};
-ghost use Rattle.boogie_parse.specs.ExpressionReading as reading;
-ghost use Rattle.boogie_parse.specs.ExpressionViews.{tree, Gives, HasHeight};
+ghost use Rattle.boogie_parse.specs.Rules.GrammarLimits.{depth as depth_of};
+ghost use Rattle.boogie_parse.specs.Reading.Outcomes.{place_or};
+ghost use Rattle.boogie_parse.specs.Reading.ExpressionReading as reading;
+ghost use Rattle.boogie_parse.specs.Ties.ExpressionViews.{tree, Gives, HasHeight};
 
 use super::found::Found;
 use super::parser::{Parser, past_limit};

@@ -1,9 +1,9 @@
 ghost use Rattle.std.specs.Prelude.{◌≡◌, ◌<◌, ◌≤◌, suc, max, IfOk};
 ghost use Rattle.boogie_tree.specs.Tree.{Bin, Lit, Truth, Var};
 ghost use Rattle.boogie_tree.specs.View.{kind_view};
-ghost use Rattle.boogie_parse.specs.GrammarLimits.{depth};
-ghost use Rattle.boogie_parse.specs.ExpressionReading.{done, prefixed};
-ghost use Rattle.boogie_parse.specs.ExpressionViews.{tree, Gives, HasHeight};
+ghost use Rattle.boogie_parse.specs.Rules.GrammarLimits.{depth};
+ghost use Rattle.boogie_parse.specs.Reading.ExpressionReading.{done, prefixed};
+ghost use Rattle.boogie_parse.specs.Ties.ExpressionViews.{tree, Gives, HasHeight};
 
 use super::expressions::operators::Prefix;
 use super::parser::Parser;

@@ -3,23 +3,23 @@
 ghost use Rattle.std.specs.Prelude.{◌≡◌, ℕ, ◌≤◌, List, None, Err, length, IfOk};
 ghost use Rattle.boogie_tree.specs.declared.span.Span.{Span};
 ghost use Rattle.boogie_parse.specs.declared.symbols.Symbol.{Symbol};
-ghost use Rattle.boogie_parse.specs.GrammarLists.{ReadsVariables, ReadsFormals, ReadsInvariants};
-ghost use Rattle.boogie_parse.specs.GrammarStatements.{ReadsBlock, ReadsList};
-ghost use Rattle.boogie_parse.specs.GrammarLimits.{IsShallowBlock};
+ghost use Rattle.boogie_parse.specs.Rules.GrammarLists.{ReadsVariables, ReadsFormals, ReadsInvariants};
+ghost use Rattle.boogie_parse.specs.Rules.GrammarStatements.{ReadsBlock, ReadsList};
+ghost use Rattle.boogie_parse.specs.Rules.GrammarLimits.{IsShallowBlock};
 ghost use Rattle.boogie_tree.specs.View.{block};
-ghost use Rattle.boogie_parse.specs.ListReading as reading;
-ghost use Rattle.boogie_parse.specs.StatementReading as statements;
-ghost use Rattle.boogie_parse.specs.ProgramReading as programs;
-ghost use Rattle.boogie_parse.specs.ProgramSpelling.{Spells};
-ghost use Rattle.boogie_parse.specs.ProgramGrowth.{Keeps, IsSameRoom};
-ghost use Rattle.boogie_parse.specs.ExpressionReading.{expression};
-ghost use Rattle.boogie_parse.specs.Settled.{IsSettled};
+ghost use Rattle.boogie_parse.specs.Reading.ListReading as reading;
+ghost use Rattle.boogie_parse.specs.Reading.StatementReading as statements;
+ghost use Rattle.boogie_parse.specs.Reading.ProgramReading as programs;
+ghost use Rattle.boogie_parse.specs.Spelling.ProgramSpelling.{Spells};
+ghost use Rattle.boogie_parse.specs.Ties.ProgramGrowth.{Keeps, IsSameRoom};
+ghost use Rattle.boogie_parse.specs.Reading.ExpressionReading.{expression};
+ghost use Rattle.boogie_parse.specs.Ties.Settled.{IsSettled};
 ghost use Rattle.boogie_parse.specs.declared.fault.Fault.TheVariants.{Limit};
 ghost use Rattle.boogie_parse.specs.declared.fault.Which.{Which};
 ghost use Rattle.boogie_tree.specs.declared.tree.Vary.{Vary};
 ghost use Rattle.boogie_tree.specs.Tree.{Block, Declaration, Guard};
-ghost use Rattle.boogie_parse.specs.GrammarLists.{ReadsGuard};
-ghost use Rattle.boogie_parse.specs.GrammarLimits.{IsShallowGuard};
+ghost use Rattle.boogie_parse.specs.Rules.GrammarLists.{ReadsGuard};
+ghost use Rattle.boogie_parse.specs.Rules.GrammarLimits.{IsShallowGuard};
 
 /// What is read as variables or parameters is so by the grammar, and no more than there is room for.
 pub(crate) fn variables_are_read()

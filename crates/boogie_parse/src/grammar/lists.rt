@@ -2,8 +2,8 @@
 
 ghost use Rattle.std.specs.Prelude.{◌≡◌};
 ghost use Rattle.boogie_tree.specs.View as view;
-ghost use Rattle.boogie_parse.specs.ListReading as spec;
-ghost use Rattle.boogie_parse.specs.ListViews.{Gives, found, found_if, same, items, items_as};
+ghost use Rattle.boogie_parse.specs.Reading.ListReading as spec;
+ghost use Rattle.boogie_parse.specs.Reading.ListViews.{Gives, found, found_if, same, items, items_as};
 
 use super::parser::{Parser, past_limit};
 use crate::fault::{Fault, Which};
@@ -24,7 +24,7 @@ fn says(fixed: Fixed, sign: &Sign) -> bool
 }
 
 /// Where that fixed word or mark stands, if it stands first, and the symbols behind it.
-#[tactic(auto, unfolding(crate::specs::ListReading::seen))]
+#[tactic(auto, unfolding(crate::specs::Reading::ListReading::seen))]
 pub(crate) fn seen<'a>(fixed: Fixed, symbols: &'a [Symbol]) -> Option<(Span, &'a [Symbol])>
     ensures { found_if same result ≡ spec.seen fixed symbols.now }
 {
@@ -36,7 +36,7 @@ pub(crate) fn seen<'a>(fixed: Fixed, symbols: &'a [Symbol]) -> Option<(Span, &'a
 
 impl Parser {
     /// Where that fixed word or mark stands, which must stand first, and the symbols behind it.
-    #[tactic(auto, unfolding(crate::specs::ListReading::behind))]
+    #[tactic(auto, unfolding(crate::specs::Reading::ListReading::behind))]
     pub(crate) fn behind<'a>(
         &self,
         fixed: Fixed,
@@ -61,7 +61,7 @@ impl Parser {
     }
 
     /// A name.
-    #[tactic(auto, unfolding(crate::specs::ListReading::name_at))]
+    #[tactic(auto, unfolding(crate::specs::Reading::ListReading::name_at))]
     pub(crate) fn name<'a>(&self, symbols: &'a [Symbol]) -> Result<(Name, &'a [Symbol]), Fault>
         ensures { Gives (found same) result (spec.name_at self.now.end symbols.now) }
     {
@@ -84,7 +84,7 @@ impl Parser {
     }
 
     /// A name, if there is room for one more.
-    #[tactic(auto, unfolding(crate::specs::ListReading::new_name))]
+    #[tactic(auto, unfolding(crate::specs::Reading::ListReading::new_name))]
     fn new_name<'a>(
         &self,
         room: usize,
@@ -121,7 +121,7 @@ impl Parser {
     }
 
     /// An expression that is at most 200 deep.
-    #[tactic(auto, unfolding(crate::specs::ListReading::expression_at))]
+    #[tactic(auto, unfolding(crate::specs::Reading::ListReading::expression_at))]
     pub(crate) fn shallow_expression<'a>(
         &self,
         parentheses: u8,
@@ -135,7 +135,7 @@ impl Parser {
     }
 
     /// How many parentheses or braces may be opened behind the one that must stand first, where so many may.
-    #[tactic(auto, unfolding(crate::specs::ListReading::opened))]
+    #[tactic(auto, unfolding(crate::specs::Reading::ListReading::opened))]
     pub(crate) fn opened<'a>(
         &self,
         mark: Fixed,
@@ -174,7 +174,7 @@ impl Parser {
     }
 
     /// Names up to their semicolon.
-    #[tactic(auto, unfolding(crate::specs::ListReading::listed_names))]
+    #[tactic(auto, unfolding(crate::specs::Reading::ListReading::listed_names))]
     pub(crate) fn listed_names<'a>(
         &self,
         symbols: &'a [Symbol],

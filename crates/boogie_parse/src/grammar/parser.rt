@@ -1,5 +1,5 @@
 ghost use Rattle.std.specs.Prelude.{◌≡◌};
-ghost use Rattle.boogie_parse.specs.Outcomes.{place_or, syntax_fault, limit_fault};
+ghost use Rattle.boogie_parse.specs.Reading.Outcomes.{place_or, syntax_fault, limit_fault};
 
 use crate::fault::{Fault, Which};
 use crate::symbols::Symbol;

@@ -2,11 +2,11 @@
 
 ghost use Rattle.std.specs.Prelude.{◌≡◌, ◌-◌, [], ◌∷◌, map, None, Some};
 ghost use Rattle.boogie_tree.specs.View as view;
-ghost use Rattle.boogie_parse.specs.GrammarLimits as limits;
-ghost use Rattle.boogie_parse.specs.ListReading as list;
-ghost use Rattle.boogie_parse.specs.ProgramReading as spec;
-ghost use Rattle.boogie_parse.specs.ProgramViews.{head};
-ghost use Rattle.boogie_parse.specs.ListViews.{Gives, found, found_if, items_as};
+ghost use Rattle.boogie_parse.specs.Rules.GrammarLimits as limits;
+ghost use Rattle.boogie_parse.specs.Reading.ListReading as list;
+ghost use Rattle.boogie_parse.specs.Reading.ProgramReading as spec;
+ghost use Rattle.boogie_parse.specs.Ties.ProgramViews.{head};
+ghost use Rattle.boogie_parse.specs.Reading.ListViews.{Gives, found, found_if, items_as};
 
 use super::blocks::there;
 use super::declarations::{Head, VARIABLES, alone, constants, globals};
@@ -45,7 +45,7 @@ fn room_behind(most: usize, declarations: &[Decl]) -> usize
 
 /// Each takes the place of the declaration's first word and the symbols behind it.
 impl Parser {
-    #[tactic(auto, unfolding(crate::specs::ProgramReading::constants_at))]
+    #[tactic(auto, unfolding(crate::specs::Reading::ProgramReading::constants_at))]
     fn constant_group<'a>(&self, symbols: &'a [Symbol]) -> Result<FoundDecls<'a>, Fault>
         ensures { Gives (found (items_as view.declaration)) result
             (spec.constants_at (list.expression_at self.now.end) self.now.end 200 200 1000 symbols.now) }
@@ -54,7 +54,7 @@ impl Parser {
         Ok((constants(self.alloc, variables)?, rest))
     }
 
-    #[tactic(auto, unfolding(crate::specs::ProgramReading::globals_at))]
+    #[tactic(auto, unfolding(crate::specs::Reading::ProgramReading::globals_at))]
     fn global_group<'a>(&self, symbols: &'a [Symbol]) -> Result<FoundDecls<'a>, Fault>
         ensures { Gives (found (items_as view.declaration)) result
             (spec.globals_at (list.expression_at self.now.end) self.now.end 200 200 1000 symbols.now) }
@@ -70,7 +70,7 @@ impl Parser {
         Ok((alone(self.alloc, declaration)?, symbols))
     }
 
-    #[tactic(auto, unfolding(crate::specs::ProgramReading::axiom_at))]
+    #[tactic(auto, unfolding(crate::specs::Reading::ProgramReading::axiom_at))]
     fn axiom<'a>(&self, span: Span, symbols: &'a [Symbol]) -> Result<FoundDecls<'a>, Fault>
         ensures { Gives (found (items_as view.declaration)) result
             (spec.axiom_at (list.expression_at self.now.end) self.now.end 200 span symbols.now) }
@@ -98,7 +98,7 @@ impl Parser {
         self.single(Decl::Procedure(front.procedure(specs, Some(body))), rest)
     }
 
-    #[tactic(auto, unfolding(crate::specs::ProgramReading::procedure_at))]
+    #[tactic(auto, unfolding(crate::specs::Reading::ProgramReading::procedure_at))]
     fn procedure<'a>(&self, span: Span, symbols: &'a [Symbol]) -> Result<FoundDecls<'a>, Fault>
         ensures { Gives (found (items_as view.declaration)) result
             (spec.procedure_at (list.expression_at self.now.end) self.now.end 200 200 1000 span symbols.now) }
@@ -110,7 +110,7 @@ impl Parser {
         }
     }
 
-    #[tactic(auto, unfolding(crate::specs::ProgramReading::implementation_at))]
+    #[tactic(auto, unfolding(crate::specs::Reading::ProgramReading::implementation_at))]
     fn implementation<'a>(&self, span: Span, symbols: &'a [Symbol]) -> Result<FoundDecls<'a>, Fault>
         ensures { Gives (found (items_as view.declaration)) result
             (spec.implementation_at (list.expression_at self.now.end) self.now.end 200 200 1000 span symbols.now) }
@@ -122,7 +122,7 @@ impl Parser {
     }
 
     /// A procedure, if there is room for one more.
-    #[tactic(auto, unfolding(crate::specs::ProgramReading::new_procedure))]
+    #[tactic(auto, unfolding(crate::specs::Reading::ProgramReading::new_procedure))]
     fn new_procedure<'a>(
         &self,
         room: usize,
@@ -139,7 +139,7 @@ impl Parser {
     }
 
     /// A declaration of the text, if one stands there, with so many procedures at most.
-    #[tactic(auto, unfolding(crate::specs::ProgramReading::declaration_at))]
+    #[tactic(auto, unfolding(crate::specs::Reading::ProgramReading::declaration_at))]
     fn declaration<'a>(
         &self,
         room: usize,
@@ -184,7 +184,7 @@ impl Parser {
     }
 
     /// The program that the symbols spell, or the fault at the first symbol that can't stand there or goes past a limit.
-    #[tactic(auto, unfolding(crate::specs::ProgramReading::program_at))]
+    #[tactic(auto, unfolding(crate::specs::Reading::ProgramReading::program_at))]
     pub(crate) fn program(&self, symbols: &[Symbol]) -> Result<Program, Fault>
         ensures { Gives view.program result
             (spec.program_at (list.expression_at self.now.end) self.now.end 200 200 1000 1000 symbols.now) }

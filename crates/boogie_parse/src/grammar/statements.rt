@@ -4,10 +4,10 @@ ghost use Rattle.std.specs.Prelude.{◌≡◌, ◌++◌, ◌∷◌, [], None, If
 ghost use Rattle.boogie_tree.specs.declared.tree.Stmt.TheVariants as stmts;
 ghost use Rattle.boogie_parse.specs.declared.fault.Fault.TheVariants as faults;
 ghost use Rattle.boogie_parse.specs.declared.symbols.Fixed.TheVariants as fixed;
-ghost use Rattle.boogie_parse.specs.ListReading as list;
-ghost use Rattle.boogie_parse.specs.StatementReading as spec;
-ghost use Rattle.boogie_parse.specs.StatementReading.{Inside};
-ghost use Rattle.boogie_parse.specs.StatementViews.{AddsIf};
+ghost use Rattle.boogie_parse.specs.Reading.ListReading as list;
+ghost use Rattle.boogie_parse.specs.Reading.StatementReading as spec;
+ghost use Rattle.boogie_parse.specs.Reading.StatementReading.{Inside};
+ghost use Rattle.boogie_parse.specs.Ties.StatementViews.{AddsIf};
 
 use super::lists::seen;
 use super::parser::Parser;
@@ -36,7 +36,7 @@ fn put_label(statements: &mut Vec<Stmt>, span: Span, text: &Text) -> Result<(), 
 
 impl Parser {
     /// A statement that holds no others, if one stands there.
-    #[tactic(auto, unfolding(crate::specs::StatementReading::statement_at, crate::specs::ListReading::seen))]
+    #[tactic(auto, unfolding(crate::specs::Reading::StatementReading::statement_at, crate::specs::Reading::ListReading::seen))]
     pub(super) fn plain<'a>(
         &self,
         symbols: &'a [Symbol],
@@ -71,7 +71,7 @@ impl Parser {
 /// Each takes the place of the statement's first word and the symbols behind it, adds the statement to the list, and gives the symbols
 /// behind it.
 impl Parser {
-    #[tactic(auto, unfolding(crate::specs::StatementReading::assert_at))]
+    #[tactic(auto, unfolding(crate::specs::Reading::StatementReading::assert_at))]
     fn assertion<'a>(
         &self,
         span: Span,
@@ -86,7 +86,7 @@ impl Parser {
         Ok(Some(rest))
     }
 
-    #[tactic(auto, unfolding(crate::specs::StatementReading::assume_at))]
+    #[tactic(auto, unfolding(crate::specs::Reading::StatementReading::assume_at))]
     fn assumption<'a>(
         &self,
         span: Span,
@@ -101,7 +101,7 @@ impl Parser {
         Ok(Some(rest))
     }
 
-    #[tactic(auto, unfolding(crate::specs::StatementReading::havoc_at))]
+    #[tactic(auto, unfolding(crate::specs::Reading::StatementReading::havoc_at))]
     fn havoc<'a>(
         &self,
         span: Span,
@@ -115,7 +115,7 @@ impl Parser {
         Ok(Some(rest))
     }
 
-    #[tactic(auto, unfolding(crate::specs::StatementReading::goto_at))]
+    #[tactic(auto, unfolding(crate::specs::Reading::StatementReading::goto_at))]
     fn goto<'a>(
         &self,
         span: Span,
@@ -129,7 +129,7 @@ impl Parser {
         Ok(Some(rest))
     }
 
-    #[tactic(auto, unfolding(crate::specs::StatementReading::break_at))]
+    #[tactic(auto, unfolding(crate::specs::Reading::StatementReading::break_at))]
     fn break_out<'a>(
         &self,
         span: Span,
@@ -148,7 +148,7 @@ impl Parser {
         Ok(Some(rest))
     }
 
-    #[tactic(auto, unfolding(crate::specs::StatementReading::return_at))]
+    #[tactic(auto, unfolding(crate::specs::Reading::StatementReading::return_at))]
     fn return_out<'a>(
         &self,
         span: Span,
@@ -163,7 +163,7 @@ impl Parser {
     }
 
     /// An assignment, from its first target on.
-    #[tactic(auto, unfolding(crate::specs::StatementReading::assign_at))]
+    #[tactic(auto, unfolding(crate::specs::Reading::StatementReading::assign_at))]
     fn assignment<'a>(
         &self,
         span: Span,
@@ -182,7 +182,7 @@ impl Parser {
     }
 
     /// A label or an assignment, whose name stands first; `rest` stands behind it.
-    #[tactic(auto, unfolding(crate::specs::StatementReading::named_at))]
+    #[tactic(auto, unfolding(crate::specs::Reading::StatementReading::named_at))]
     fn named<'a>(
         &self,
         span: Span,
@@ -204,7 +204,7 @@ impl Parser {
     }
 
     /// The arguments of a call and its semicolon.
-    #[tactic(auto, unfolding(crate::specs::StatementReading::called_at))]
+    #[tactic(auto, unfolding(crate::specs::Reading::StatementReading::called_at))]
     fn called<'a>(
         &self,
         span: Span,
@@ -223,7 +223,7 @@ impl Parser {
     }
 
     /// A call with targets.
-    #[tactic(auto, unfolding(crate::specs::StatementReading::call_into))]
+    #[tactic(auto, unfolding(crate::specs::Reading::StatementReading::call_into))]
     fn call_into<'a>(
         &self,
         span: Span,
@@ -239,7 +239,7 @@ impl Parser {
         self.called(span, targets, procedure, rest, statements)
     }
 
-    #[tactic(auto, unfolding(crate::specs::StatementReading::call_at))]
+    #[tactic(auto, unfolding(crate::specs::Reading::StatementReading::call_at))]
     fn call<'a>(
         &self,
         span: Span,

@@ -1,9 +1,9 @@
 //! Variables with their types, parameters and results.
 
 ghost use Rattle.std.specs.Prelude.{◌≡◌, IfOk};
-ghost use Rattle.boogie_parse.specs.GrammarLists as grammar;
-ghost use Rattle.boogie_parse.specs.ListReading as spec;
-ghost use Rattle.boogie_parse.specs.ListViews.{Gives, found, same, items};
+ghost use Rattle.boogie_parse.specs.Rules.GrammarLists as grammar;
+ghost use Rattle.boogie_parse.specs.Reading.ListReading as spec;
+ghost use Rattle.boogie_parse.specs.Reading.ListViews.{Gives, found, same, items};
 
 use super::lists::seen;
 use super::parser::Parser;
@@ -39,7 +39,7 @@ fn of_type(alloc: Global, ty: Ty, names: Vec<Name>) -> Result<Vec<Vary>, AllocFa
 
 impl Parser {
     /// A type.
-    #[tactic(auto, unfolding(crate::specs::ListReading::type_at))]
+    #[tactic(auto, unfolding(crate::specs::Reading::ListReading::type_at))]
     fn ty<'a>(&self, symbols: &'a [Symbol]) -> Result<(Ty, &'a [Symbol]), Fault>
         ensures { Gives (found same) result (spec.type_at self.now.end symbols.now) }
     {
@@ -53,7 +53,7 @@ impl Parser {
     }
 
     /// Names of one type, so many at most.
-    #[tactic(auto, unfolding(crate::specs::ListReading::group_at))]
+    #[tactic(auto, unfolding(crate::specs::Reading::ListReading::group_at))]
     fn typed_group<'a>(
         &self,
         room: usize,
@@ -89,7 +89,7 @@ impl Parser {
     }
 
     /// Variables up to their semicolon, so many at most.
-    #[tactic(auto, unfolding(crate::specs::ListReading::declared_behind))]
+    #[tactic(auto, unfolding(crate::specs::Reading::ListReading::declared_behind))]
     pub(crate) fn declared<'a>(
         &self,
         room: usize,
@@ -102,7 +102,7 @@ impl Parser {
     }
 
     /// Parameters or results in parentheses, so many at most.
-    #[tactic(auto, unfolding(crate::specs::ListReading::formals_at))]
+    #[tactic(auto, unfolding(crate::specs::Reading::ListReading::formals_at))]
     pub(crate) fn formals<'a>(
         &self,
         room: usize,
@@ -119,7 +119,7 @@ impl Parser {
     }
 
     /// Results, if there are any, so many at most.
-    #[tactic(auto, unfolding(crate::specs::ListReading::results_at))]
+    #[tactic(auto, unfolding(crate::specs::Reading::ListReading::results_at))]
     pub(crate) fn results<'a>(
         &self,
         room: usize,

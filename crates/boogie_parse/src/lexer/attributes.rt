@@ -1,9 +1,9 @@
 //! Attributes: where they begin and end, and what may not stand inside them.
 
 ghost use Rattle.std.specs.Prelude.{◌≡◌, ◌+◌, ◌^◌, ◌<◌, ◌≤◌, length, map, IfOk, IfSome};
-ghost use Rattle.boogie_parse.specs.Attributes as spec;
-ghost use Rattle.boogie_parse.specs.PieceViews.{piece};
-ghost use Rattle.boogie_parse.specs.Turns as turns;
+ghost use Rattle.boogie_parse.specs.Lexing.Attributes as spec;
+ghost use Rattle.boogie_parse.specs.Ties.PieceViews.{piece};
+ghost use Rattle.boogie_parse.specs.Ties.Turns as turns;
 
 use super::judgement::syntax_at;
 use super::piece::{Piece, Shape, is_mark};

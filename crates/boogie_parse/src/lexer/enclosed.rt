@@ -1,8 +1,8 @@
 //! How far comments and strings reach.
 
 ghost use Rattle.std.specs.Prelude.{◌≡◌, ◌+◌, ◌^◌, ◌<◌, ◌≤◌, length, IfSome};
-ghost use Rattle.boogie_parse.specs.Pieces.{string_length, comment_length};
-ghost use Rattle.boogie_parse.specs.Turns as turns;
+ghost use Rattle.boogie_parse.specs.Lexing.Pieces.{string_length, comment_length};
+ghost use Rattle.boogie_parse.specs.Ties.Turns as turns;
 
 /// How many bytes stand in a string that is open, up to the `"` that closes it; none where it stays open on its line.
 pub(super) fn string_length(text: &[u8]) -> Option<usize>

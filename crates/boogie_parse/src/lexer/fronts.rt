@@ -2,10 +2,10 @@
 
 ghost use Rattle.std.specs.Prelude.{◌≡◌, ◌≤◌, length, drop, option_map};
 ghost use Rattle.boogie_tree.specs.Names.{is_digit};
-ghost use Rattle.boogie_parse.specs.Tokens.{run};
-ghost use Rattle.boogie_parse.specs.Pieces as spec;
-ghost use Rattle.boogie_parse.specs.PieceViews.{front};
-ghost use Rattle.boogie_parse.specs.Turns.{first_mark, front_of};
+ghost use Rattle.boogie_parse.specs.Lexing.Tokens.{run};
+ghost use Rattle.boogie_parse.specs.Lexing.Pieces as spec;
+ghost use Rattle.boogie_parse.specs.Ties.PieceViews.{front};
+ghost use Rattle.boogie_parse.specs.Ties.Turns.{first_mark, front_of};
 
 use super::bytes::is_blank;
 use super::enclosed::{comment_length, string_length};

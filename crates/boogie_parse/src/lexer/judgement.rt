@@ -1,9 +1,9 @@
 //! What a piece outside attributes is: a token or a fault.
 
 ghost use Rattle.std.specs.Prelude.{◌≡◌, ◌≢◌, Ok, Err, IfOk, IfErr};
-ghost use Rattle.boogie_parse.specs.Lexed as spec;
-ghost use Rattle.boogie_parse.specs.PieceViews as views;
-ghost use Rattle.boogie_parse.specs.Turns.{judgement};
+ghost use Rattle.boogie_parse.specs.Lexing.Lexed as spec;
+ghost use Rattle.boogie_parse.specs.Ties.PieceViews as views;
+ghost use Rattle.boogie_parse.specs.Ties.Turns.{judgement};
 
 use super::piece::{Piece, Shape};
 use super::token::Token;

@@ -1,9 +1,9 @@
 //! What a text is cut into.
 
 ghost use Rattle.std.specs.Prelude.{◌≡◌};
-ghost use Rattle.boogie_parse.specs.PieceViews.{front, piece};
-ghost use Rattle.boogie_parse.specs.Attributes as spec;
-ghost use Rattle.boogie_parse.specs.Turns.{length_of};
+ghost use Rattle.boogie_parse.specs.Ties.PieceViews.{front, piece};
+ghost use Rattle.boogie_parse.specs.Lexing.Attributes as spec;
+ghost use Rattle.boogie_parse.specs.Ties.Turns.{length_of};
 
 use crate::token::TokenKind;
 use boogie_tree::Span;

@@ -1,8 +1,8 @@
 //! Runs of bytes and marks that a text begins with.
 
 ghost use Rattle.std.specs.Prelude.{◌≡◌, ◌≤◌, length};
-ghost use Rattle.boogie_parse.specs.Tokens.{run, makes_real, mark_at};
-ghost use Rattle.boogie_parse.specs.Class.{passes};
+ghost use Rattle.boogie_parse.specs.Lexing.Tokens.{run, makes_real, mark_at};
+ghost use Rattle.boogie_parse.specs.Ties.Class.{passes};
 
 use crate::token::TokenKind;
 use boogie_tree::names::{is_digit, is_letter, is_name_byte};

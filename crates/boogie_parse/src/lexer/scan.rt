@@ -1,9 +1,9 @@
 //! The pieces of a text, with their places.
 
 ghost use Rattle.std.specs.Prelude.{◌≡◌, ◌+◌, ◌<◌, ◌^◌, length, map, IfOk};
-ghost use Rattle.boogie_parse.specs.Places as places;
-ghost use Rattle.boogie_parse.specs.Pieces as spec;
-ghost use Rattle.boogie_parse.specs.PieceViews.{piece};
+ghost use Rattle.boogie_parse.specs.Lexing.Places as places;
+ghost use Rattle.boogie_parse.specs.Lexing.Pieces as spec;
+ghost use Rattle.boogie_parse.specs.Ties.PieceViews.{piece};
 
 use super::fronts::front_of;
 use super::piece::{Front, Piece};

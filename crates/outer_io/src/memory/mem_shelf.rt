@@ -24,7 +24,7 @@ struct Place {
 
 impl Model for MemShelf {
     ghost use Rattle.std.specs.Prelude.{◌≤◌};
-    ghost use Rattle.outer_io.specs.MemShelf.{MemShelfState, shown_texts, left_at, IsPlaceIn};
+    ghost use Rattle.outer_io.specs.Ties.MemShelf.{MemShelfState, shown_texts, left_at, IsPlaceIn};
 
     ghost Value = { MemShelfState };
 
@@ -41,7 +41,7 @@ impl Model for MemShelf {
 }
 
 impl MemShelf {
-    ghost use Rattle.outer_io.specs.MemShelf.{shown_texts};
+    ghost use Rattle.outer_io.specs.Ties.MemShelf.{shown_texts};
 
     /// A shelf of these texts, that moves at most `most` bytes a call. Its calls are numbered from 1 in order, and those
     /// whose number is in `fails` fail. Of two texts with one name the first counts.

@@ -17,7 +17,7 @@ pub struct MemSink {
 
 impl Model for MemSink {
     ghost use Rattle.std.specs.Prelude.{◌≤◌};
-    ghost use Rattle.outer_io.specs.MemSink.{MemSinkState};
+    ghost use Rattle.outer_io.specs.Ties.MemSink.{MemSinkState};
 
     ghost Value = { MemSinkState };
 

@@ -1,6 +1,6 @@
-use Rattle.typing_rules.specs.TypedParts.{typed_program}
+use Rattle.typed_tree.specs.TypingRules.TypedParts.{typed_program}
 use Rattle.text_reports.specs.Answers.{answer_of}
-use Rattle.automizer_top.specs.EarlierViews.{IsLeftOf, RefusesText}
+use Rattle.automizer_top.specs.Ties.EarlierViews.{IsLeftOf, RefusesText}
 use Rattle.automizer_top.proofs.EarlierLaws.{left_is_given, reuse_reported, reuse_refused}
 use Rattle.automizer_top.proofs.earlier.decided_by.Goals as goal
 

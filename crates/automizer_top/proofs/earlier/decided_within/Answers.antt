@@ -1,5 +1,5 @@
-use Rattle.typing_rules.specs.TypedParts.{typed_program}
-use Rattle.automizer_top.specs.Answers.{answered}
+use Rattle.typed_tree.specs.TypingRules.TypedParts.{typed_program}
+use Rattle.automizer_top.specs.Ties.Answers.{answered}
 use Rattle.automizer_top.specs.Earlier.{ReportsReuse}
 use Rattle.text_reports.proofs.TextLaws.{second_refused, second_answered}
 use Rattle.automizer_top.proofs.earlier.decided_within.Goals as goal

@@ -1,4 +1,4 @@
-use Rattle.typing_rules.specs.TypedParts.{typed_program}
+use Rattle.typed_tree.specs.TypingRules.TypedParts.{typed_program}
 use Rattle.text_reports.specs.Answers.{answer_of, IsGraphOf}
 use Rattle.automizer_top.specs.Report.{IsTypedText, RefusesTyped, RefusesLowering}
 use Rattle.automizer_top.proofs.EarlierLaws.{refused_with, unlowered_with, decided_with}

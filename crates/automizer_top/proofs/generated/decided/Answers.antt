@@ -1,5 +1,5 @@
 use Rattle.std.proofs.Common.{None}
-use Rattle.typing_rules.specs.TypedParts.{typed_program}
+use Rattle.typed_tree.specs.TypingRules.TypedParts.{typed_program}
 use Rattle.automizer_top.proofs.BigLaws.{summary_reported, verdict_is_proved}
 use Rattle.automizer_top.proofs.generated.decided.Goals as goal
 

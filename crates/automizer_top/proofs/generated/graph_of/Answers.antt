@@ -1,4 +1,4 @@
-use Rattle.typing_rules.specs.TypedParts.{typed_program}
+use Rattle.typed_tree.specs.TypingRules.TypedParts.{typed_program}
 use Rattle.text_reports.specs.Answers.{answer_of}
 use Rattle.automizer_top.specs.Report.{RefusesLowering}
 use Rattle.automizer_top.proofs.BigLaws.{never_refused}

@@ -1,5 +1,5 @@
 use Rattle.std.proofs.lemmas.Result.{IfOk-weaker}
-use Rattle.typing_rules.specs.TypedParts.{typed_program}
+use Rattle.typed_tree.specs.TypingRules.TypedParts.{typed_program}
 use Rattle.automizer_top.proofs.BigLaws.{big_is_safe}
 use Rattle.automizer_top.proofs.generated.summed.Goals as goal
 

@@ -1,8 +1,8 @@
 use Rattle.std.proofs.Common.{ap, arith}
 use Rattle.text_reports.specs.Answers.{answer_of}
-use Rattle.automizer_top.specs.Answers.{answered}
+use Rattle.automizer_top.specs.Ties.Answers.{answered}
 use Rattle.text_reports.specs.ReportTexts.{Answer}
-use Rattle.automizer_top.specs.PartViews.{RefusesParts, IsLoweredText}
+use Rattle.automizer_top.specs.Ties.PartViews.{RefusesParts, IsLoweredText}
 use Rattle.automizer_top.proofs.PartFunctions.{check_reported, refused_reported, refused_is_three, lowered_is_safe}
 use Rattle.automizer_top.proofs.UsageLaws.{on_text_not_four}
 use Rattle.automizer_top.proofs.parts.checked.Goals as goal

@@ -1,7 +1,7 @@
 use Rattle.std.proofs.Common.{◌≡◌, ◌∙◌, sym, arith}
 use Rattle.modular_cut.specs.View.{plain_part}
 use Rattle.automizer_top.specs.Verdicts.{verdict_status}
-use Rattle.automizer_top.specs.Answers.{decided_answer}
+use Rattle.automizer_top.specs.Ties.Answers.{decided_answer}
 use Rattle.automizer_top.proofs.PartLoops.{part_graph, many_graphs, text_added, text_alone, one_more_safe, one_is_unsafe, all_are_safe, none_has_errors}
 use Rattle.automizer_top.proofs.parts.decided.Goals as goal
 

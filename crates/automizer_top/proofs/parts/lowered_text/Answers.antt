@@ -1,10 +1,10 @@
-use Rattle.typing_rules.specs.TypedParts.{typed_program}
+use Rattle.typed_tree.specs.TypingRules.TypedParts.{typed_program}
 use Rattle.modular_cut.specs.View.{plain_part}
 use Rattle.std.proofs.Common.{map}
 use Rattle.text_reports.specs.Answers.{answer_of}
-use Rattle.automizer_top.specs.Answers.{answered}
+use Rattle.automizer_top.specs.Ties.Answers.{answered}
 use Rattle.automizer_top.specs.Report.{IsTypedText, RefusesTyped}
-use Rattle.automizer_top.specs.PartViews.{AreParts, RefusesFree, AreGraphsOf, RefusesUnlowered}
+use Rattle.automizer_top.specs.Ties.PartViews.{AreParts, RefusesFree, AreGraphsOf, RefusesUnlowered}
 use Rattle.automizer_top.proofs.PartFunctions.{typed_refused, cut_refused, unlowered_refused}
 use Rattle.automizer_top.proofs.parts.lowered_text.Goals as goal
 

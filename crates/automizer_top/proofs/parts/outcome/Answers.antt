@@ -7,7 +7,7 @@ use Rattle.text_reports.specs.Answers.{answer_of}
 use Rattle.text_reports.specs.ReportTexts.{syntax_answer}
 use Rattle.automizer_top.specs.Report.{IsFailureText, ReportsFailure}
 use Rattle.automizer_top.specs.Parts.{no_part, no_part_failure, of_part_failure}
-use Rattle.automizer_top.specs.PartViews.{FindsPart}
+use Rattle.automizer_top.specs.Ties.PartViews.{FindsPart}
 use Rattle.automizer_top.proofs.PartLoops.{part_at}
 use Rattle.automizer_top.proofs.parts.outcome.Goals as goal
 

@@ -3,7 +3,7 @@ use Rattle.modular_cut.specs.View.{plain_part}
 use Rattle.text_reports.specs.Answers.{answer_of}
 use Rattle.text_reports.specs.ReportTexts.{accepted_answer, syntax_answer}
 use Rattle.automizer_top.specs.PartTexts.{modular_line, text_behind}
-use Rattle.automizer_top.specs.PartViews.{JudgesPart, ChecksOn}
+use Rattle.automizer_top.specs.Ties.PartViews.{JudgesPart, ChecksOn}
 use Rattle.automizer_top.proofs.PartOnce.{behind_is_short}
 use Rattle.automizer_top.proofs.PartLoops.{part_graph, many_graphs, none_proved, one_more_proved, one_is_wrong, all_proved, all_have_none, end_empty, end_behind}
 use Rattle.automizer_top.proofs.parts.proved.Goals as goal

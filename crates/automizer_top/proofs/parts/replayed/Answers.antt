@@ -1,12 +1,12 @@
 use Rattle.std.proofs.Common.{map, arith}
-use Rattle.typing_rules.specs.TypedParts.{typed_program}
+use Rattle.typed_tree.specs.TypingRules.TypedParts.{typed_program}
 use Rattle.modular_cut.specs.View.{plain_part}
 use Rattle.text_reports.specs.Answers.{answer_of}
-use Rattle.automizer_top.specs.Answers.{answered}
+use Rattle.automizer_top.specs.Ties.Answers.{answered}
 use Rattle.text_reports.specs.ReportTexts.{too_long_answer}
 use Rattle.automizer_top.specs.Report.{IsTypedText, RefusesTyped}
 use Rattle.automizer_top.specs.Parts.{ReportsPartFailure}
-use Rattle.automizer_top.specs.PartViews.{AreParts, RefusesFree}
+use Rattle.automizer_top.specs.Ties.PartViews.{AreParts, RefusesFree}
 use Rattle.text_reports.proofs.TextLaws.{second_refused, second_answered}
 use Rattle.automizer_top.proofs.PartFunctions.{typed_unreplayed, free_unreplayed, replay_reported, free_is_three}
 use Rattle.automizer_top.proofs.UsageLaws.{on_text_not_four}

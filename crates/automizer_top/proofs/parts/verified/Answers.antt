@@ -1,6 +1,6 @@
 use Rattle.std.proofs.lemmas.Result.{IfOk-weaker}
-use Rattle.automizer_top.specs.Answers.{answered}
-use Rattle.automizer_top.specs.PartViews.{RefusesParts, IsLoweredText}
+use Rattle.automizer_top.specs.Ties.Answers.{answered}
+use Rattle.automizer_top.specs.Ties.PartViews.{RefusesParts, IsLoweredText}
 use Rattle.automizer_top.proofs.PartFunctions.{verify_answered, refused_verify, lowered_is_safe}
 use Rattle.automizer_top.proofs.parts.verified.Goals as goal
 

@@ -1,7 +1,7 @@
 use Rattle.std.proofs.Common.{arith}
 use Rattle.std.proofs.lemmas.Result.{IfOk-weaker}
 use Rattle.text_reports.specs.Answers.{answer_of, IsGraphOfText, IsRefusedText}
-use Rattle.automizer_top.specs.Answers.{answered}
+use Rattle.automizer_top.specs.Ties.Answers.{answered}
 use Rattle.automizer_top.specs.Rankings.{ReportsLassoText}
 use Rattle.text_reports.proofs.GraphTexts.{refused_reported, refused_text_is_three, graph_reported}
 use Rattle.automizer_top.proofs.GraphTexts.{text_is_graph}

@@ -1,6 +1,6 @@
 use Rattle.std.proofs.Common.{refl}
-use Rattle.lasso_ranks.specs.Lassos.{plain_lasso}
-use Rattle.lasso_ranks.specs.Ranks.{plain_ranking}
+use Rattle.rank_lasso.specs.LassoRanks.Lassos.{plain_lasso}
+use Rattle.rank_lasso.specs.LassoRanks.Ranks.{plain_ranking}
 use Rattle.automizer_top.specs.Rankings.{ranking_holds, ranking_fails}
 use Rattle.automizer_top.proofs.rankings.held.Goals as goal
 

@@ -1,5 +1,5 @@
-use Rattle.lasso_ranks.specs.Lassos.{plain_lasso}
-use Rattle.lasso_ranks.specs.Ranks.{plain_ranking}
+use Rattle.rank_lasso.specs.LassoRanks.Lassos.{plain_lasso}
+use Rattle.rank_lasso.specs.LassoRanks.Ranks.{plain_ranking}
 use Rattle.automizer_top.specs.Rankings.{ReportsRankingText, no_ranking_text, ranks_no_lasso}
 use Rattle.automizer_top.proofs.RankingLaws.{fault_told}
 use Rattle.automizer_top.proofs.rankings.held_by.Goals as goal

@@ -1,7 +1,7 @@
 use Rattle.std.proofs.Common.{Ok, ap, refl, arith}
-use Rattle.lasso_ranks.specs.Lassos.{plain_lasso}
-use Rattle.lasso_ranks.specs.Ranks.{plain_ranking, IsRankingOver, Ranks}
-use Rattle.lasso_ranks.specs.Outcomes.{IsRank, DecideExcludes}
+use Rattle.rank_lasso.specs.LassoRanks.Lassos.{plain_lasso}
+use Rattle.rank_lasso.specs.LassoRanks.Ranks.{plain_ranking, IsRankingOver, Ranks}
+use Rattle.rank_lasso.specs.LassoRanks.Outcomes.{IsRank, DecideExcludes}
 use Rattle.rank_lasso.proofs.OneText.{holding_rankings_can_be_written}
 use Rattle.automizer_top.specs.Rankings.{found_ranking, found_none, past_number}
 use Rattle.automizer_top.proofs.rankings.sought.Goals as goal

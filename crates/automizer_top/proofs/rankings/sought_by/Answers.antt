@@ -1,5 +1,5 @@
 use Rattle.std.proofs.lemmas.Result.{IfOk-weaker}
-use Rattle.lasso_ranks.specs.Lassos.{plain_lasso}
+use Rattle.rank_lasso.specs.LassoRanks.Lassos.{plain_lasso}
 use Rattle.automizer_top.specs.Rankings.{IsLassoText, no_lasso_text, no_lasso, of_lasso}
 use Rattle.automizer_top.proofs.rankings.sought_by.Goals as goal
 

@@ -1,4 +1,4 @@
-use Rattle.automizer_top.specs.Answers.{answered}
+use Rattle.automizer_top.specs.Ties.Answers.{answered}
 use Rattle.automizer_top.specs.Rankings.{ReportsLassoText}
 use Rattle.text_reports.proofs.TextLaws.{second_refused, second_answered}
 use Rattle.automizer_top.proofs.RankingLaws.{lasso_text_not_four}

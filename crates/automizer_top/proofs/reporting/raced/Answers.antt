@@ -1,4 +1,4 @@
-use Rattle.typing_rules.specs.TypedParts.{typed_program}
+use Rattle.typed_tree.specs.TypingRules.TypedParts.{typed_program}
 use Rattle.automizer_top.proofs.VerdictLaws.{given_over, fits, reports, safe_is_infeasible}
 use Rattle.automizer_top.proofs.reporting.raced.Goals as goal
 

@@ -2,7 +2,7 @@ use Rattle.std.proofs.Common.{Bool, sym, subst}
 use Rattle.std.specs.Prelude.{IfOk, IfSome}
 use Rattle.outer_io.specs.Texts.{text_named}
 use Rattle.text_reports.specs.Answers.{answer_of}
-use Rattle.automizer_top.specs.Answers.{answered}
+use Rattle.automizer_top.specs.Ties.Answers.{answered}
 use Rattle.automizer_top.specs.Report.{ReportsReplayBy}
 use Rattle.automizer_top.proofs.UsageLaws.{on_text_not_four}
 use Rattle.automizer_top.proofs.reporting.replayed_by.Goals as goal

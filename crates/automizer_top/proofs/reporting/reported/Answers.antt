@@ -1,8 +1,8 @@
 use Rattle.std.proofs.Common.{◌≡◌, map, Some, ap, arith}
 use Rattle.std.specs.String.{string_bytes}
 use Rattle.automizer_top.specs.CommandLine.{Big, requested}
-use Rattle.automizer_top.specs.Asked.{asked, settings}
-use Rattle.automizer_top.specs.Answers.{Asks, answered}
+use Rattle.automizer_top.specs.Ties.Asked.{asked, settings}
+use Rattle.automizer_top.specs.Ties.Answers.{Asks, answered}
 use Rattle.text_reports.specs.ReportTexts.{Answer}
 use Rattle.automizer_top.specs.Report.{Ask}
 use Rattle.automizer_top.proofs.UsageLaws.{asks_by, asks_texts, asks_big, used_by_code, used_by_summary}

@@ -1,4 +1,4 @@
-use Rattle.automizer_top.specs.Answers.{answered}
+use Rattle.automizer_top.specs.Ties.Answers.{answered}
 use Rattle.automizer_top.proofs.EarlierLaws.{by_parts, by_program, by_earlier}
 use Rattle.automizer_top.proofs.reporting.verified_by.Goals as goal
 

@@ -4,7 +4,7 @@ use Rattle.std.specs.String.{string_bytes}
 use Rattle.outer_io.specs.Texts.{GainsFront}
 use Rattle.race_core.specs.Races.{Race}
 use Rattle.itp_automaton.specs.Certified.{Certificate}
-use Rattle.automizer_top.specs.Answers.{answered}
+use Rattle.automizer_top.specs.Ties.Answers.{answered}
 use Rattle.automizer_top.proofs.AnsweringLaws.{where_ok, closes_given, took_front, closes_at_front}
 use Rattle.automizer_top.proofs.ClosedLaws.{is_not_five, is_not_six}
 use Rattle.automizer_top.proofs.ReportLaws.{known_of, nothing_is_safe, front_is_safe, whole_is_safe, check_is_accepted, zero_is_safe}

@@ -1,7 +1,7 @@
 use Rattle.std.proofs.Common.{◌≡◌, ◌∙◌, codes, true, false, refl, ap₂}
 use Rattle.std.proofs.lemmas.Result.{IfOk-weaker}
 use Rattle.clap.specs.Simple.{App, with_rule}
-use Rattle.command_words.specs.Rules.{positional, option, flag, optional, bare_command}
+use Rattle.text_reports.specs.CommandWords.Rules.{positional, option, flag, optional, bare_command}
 use Rattle.automizer_top.specs.CommandLine.{command}
 use Rattle.automizer_top.proofs.words.command.Goals as goal
 

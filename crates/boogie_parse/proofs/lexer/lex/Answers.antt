@@ -2,13 +2,13 @@ use Rattle.std.proofs.Common.{◌≡◌, List, Vec, Global, map, Ok, ap, sym, �
 use Rattle.std.proofs.lemmas.Result.{IfOk-weaker}
 use Rattle.std.specs.List.{AllByRecursion}
 use Rattle.boogie_parse.specs.declared.lexer.token.Token.{Token}
-use Rattle.boogie_parse.specs.Symbols.{LiteralFits}
-use Rattle.boogie_parse.specs.Pieces.{Piece}
-use Rattle.boogie_parse.specs.Lexed.{found_in, tokens_or_fault}
-use Rattle.boogie_parse.specs.Slices.{AreSlices}
-use Rattle.boogie_parse.specs.PieceViews.{piece}
-use Rattle.boogie_parse.proofs.SliceLaws.{lexed_slices}
-use Rattle.boogie_parse.proofs.LiteralTokens.{lexed_literals}
+use Rattle.boogie_parse.specs.Lexing.Symbols.{LiteralFits}
+use Rattle.boogie_parse.specs.Lexing.Pieces.{Piece}
+use Rattle.boogie_parse.specs.Lexing.Lexed.{found_in, tokens_or_fault}
+use Rattle.boogie_parse.specs.Lexing.Slices.{AreSlices}
+use Rattle.boogie_parse.specs.Ties.PieceViews.{piece}
+use Rattle.boogie_parse.proofs.Lexing.SliceLaws.{lexed_slices}
+use Rattle.boogie_parse.proofs.Lexing.LiteralTokens.{lexed_literals}
 use Rattle.boogie_parse.proofs.lexer.lex.Goals as goal
 
 pub returns-clause-slices : goal.returns-clause-slices

@@ -1,6 +1,6 @@
 use Rattle.std.proofs.Common.{◌+◌, ◌∙◌, sym, ap, arith, length, length-drop}
 use Rattle.std.proofs.lemmas.Result.{err_from_is_err_and}
-use Rattle.boogie_parse.proofs.TokenTurns.{tail_is, attribute_goes, attribute_fails, piece_goes, piece_fails, all_read}
+use Rattle.boogie_parse.proofs.Lexing.TokenTurns.{tail_is, attribute_goes, attribute_fails, piece_goes, piece_fails, all_read}
 use Rattle.boogie_parse.proofs.lexer.tokens_of.Goals as goal
 
 pub returns-in_err-at-clause-fault : goal.returns-in_err-at-clause-fault

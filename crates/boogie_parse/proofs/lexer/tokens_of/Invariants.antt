@@ -1,7 +1,7 @@
 use Rattle.std.proofs.Common.{◌≡◌, ◌≤◌, ◌-◌, length, map, drop}
-use Rattle.boogie_parse.specs.Lexed.{found_in, tokens_or_fault}
-use Rattle.boogie_parse.specs.PieceViews.{piece}
-use Rattle.boogie_parse.specs.Turns.{with_tokens}
+use Rattle.boogie_parse.specs.Lexing.Lexed.{found_in, tokens_or_fault}
+use Rattle.boogie_parse.specs.Ties.PieceViews.{piece}
+use Rattle.boogie_parse.specs.Ties.Turns.{with_tokens}
 use Rattle.boogie_parse.proofs.lexer.tokens_of.Given as goal
 
 abbrev pub invariant-loop-at : goal.invariant-loop-at

@@ -1,5 +1,5 @@
 use Rattle.std.proofs.Common.{sym, ◌∙◌}
-use Rattle.boogie_parse.proofs.LiteralLaws.{literal_too_large}
+use Rattle.boogie_parse.proofs.Lexing.LiteralLaws.{literal_too_large}
 use Rattle.boogie_parse.proofs.literals.literal.Goals as goal
 
 pub returns-in_err-value : goal.returns-in_err-value

@@ -1,6 +1,6 @@
 use Rattle.std.proofs.Common.{◌≡◌, ◌^◌, ◌<◌, drop}
 use Rattle.std.specs.Str.Parse.{digits_value_after}
-use Rattle.boogie_parse.specs.Literals.{value_of}
+use Rattle.boogie_parse.specs.Ties.Literals.{value_of}
 use Rattle.boogie_parse.proofs.literals.literal.Given as goal
 
 abbrev pub invariant-loop-digit : goal.invariant-loop-digit

@@ -1,9 +1,9 @@
 use Rattle.std.proofs.Common.{sym, subst}
-use Rattle.boogie_parse.specs.PrintedTokens.{HasSigns}
-use Rattle.boogie_parse.specs.GrammarProgram.{joined_groups}
-use Rattle.boogie_parse.proofs.SpellableTokens.{lexed_spellable}
-use Rattle.boogie_parse.proofs.SpellableTrees.{program_of}
-use Rattle.boogie_parse.proofs.PrintedPrograms.{program_has_signs}
+use Rattle.boogie_parse.specs.Spelling.PrintedTokens.{HasSigns}
+use Rattle.boogie_parse.specs.Rules.GrammarProgram.{joined_groups}
+use Rattle.boogie_parse.proofs.Spelling.SpellableTokens.{lexed_spellable}
+use Rattle.boogie_parse.proofs.Spelling.SpellableTrees.{program_of}
+use Rattle.boogie_parse.proofs.Spelling.PrintedPrograms.{program_has_signs}
 use Rattle.boogie_parse.proofs.printed.read_programs_are_spellable.Goals as goal
 
 pub returns-clause-spellable : goal.returns-clause-spellable

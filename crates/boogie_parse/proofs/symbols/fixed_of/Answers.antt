@@ -5,8 +5,8 @@ use Rattle.std.proofs.lemmas.Iterator.Search.{find_from_yields_List}
 use Rattle.std.specs.Str.{bytes_eq}
 use Rattle.std.specs.Slice.Iter.{iter_rest}
 use Rattle.boogie_parse.specs.declared.symbols.Fixed.{Fixed}
-use Rattle.boogie_parse.specs.Symbols.{spelled, spellings}
-use Rattle.boogie_parse.proofs.Spellings.{row, fixed_of, fixed_spelled}
+use Rattle.boogie_parse.specs.Lexing.Symbols.{spelled, spellings}
+use Rattle.boogie_parse.proofs.Lexing.Spellings.{row, fixed_of, fixed_spelled}
 use Rattle.boogie_parse.proofs.symbols.fixed_of.Goals as goal
 use Rattle.boogie_parse.proofs.symbols.fixed_of.Goals.{After-find}
 

@@ -1,9 +1,9 @@
 use Rattle.std.proofs.Common.{rules}
 use Rattle.boogie_tree.specs.View.{program}
-use Rattle.boogie_parse.specs.ListViews.{Gives}
-use Rattle.boogie_parse.specs.WholeText.{read_text}
-use Rattle.boogie_parse.proofs.WholeText.{given_is_program, program_is_given, syntax_is_outside, limit_is_past, fault_is_of_tokens}
-use Rattle.boogie_parse.proofs.RoundTrip.{found_again, spellable_program}
+use Rattle.boogie_parse.specs.Reading.ListViews.{Gives}
+use Rattle.boogie_parse.specs.Rules.WholeText.{read_text}
+use Rattle.boogie_parse.proofs.Rules.WholeText.{given_is_program, program_is_given, syntax_is_outside, limit_is_past, fault_is_of_tokens}
+use Rattle.boogie_parse.proofs.Spelling.RoundTrip.{found_again, spellable_program}
 use Rattle.boogie_parse.proofs.whole_text.parse.Goals as goal
 
 pub returns-clause-found : goal.returns-clause-found

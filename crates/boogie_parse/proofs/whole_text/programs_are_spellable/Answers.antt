@@ -1,4 +1,4 @@
-use Rattle.boogie_parse.proofs.RoundTrip.{program_is_spellable}
+use Rattle.boogie_parse.proofs.Spelling.RoundTrip.{program_is_spellable}
 use Rattle.boogie_parse.proofs.whole_text.programs_are_spellable.Goals as goal
 
 pub returns : goal.returns

@@ -1,4 +1,4 @@
-use Rattle.boogie_parse.proofs.WholeText.{read_is_program, program_is_read, fault_says}
+use Rattle.boogie_parse.proofs.Rules.WholeText.{read_is_program, program_is_read, fault_says}
 use Rattle.boogie_parse.proofs.whole_text.texts_are_read.Goals as goal
 
 pub returns-clause-sound : goal.returns-clause-sound

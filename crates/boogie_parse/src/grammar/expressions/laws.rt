@@ -6,11 +6,11 @@ ghost use Rattle.boogie_tree.specs.declared.level.Level.TheVariants.{Equivalence
 ghost use Rattle.boogie_tree.specs.Tree.{Expression};
 ghost use Rattle.boogie_parse.specs.declared.fault.Fault.TheVariants as faults;
 ghost use Rattle.boogie_parse.specs.declared.symbols.Symbol.{Symbol};
-ghost use Rattle.boogie_parse.specs.Grammar.{Reads};
-ghost use Rattle.boogie_parse.specs.GrammarLimits.{depth};
-ghost use Rattle.boogie_parse.specs.Outcomes.{Read};
-ghost use Rattle.boogie_parse.specs.ExpressionReading.{expression, done};
-ghost use Rattle.boogie_parse.specs.ExpressionLaws.{Ends, Grows};
+ghost use Rattle.boogie_parse.specs.Rules.Grammar.{Reads};
+ghost use Rattle.boogie_parse.specs.Rules.GrammarLimits.{depth};
+ghost use Rattle.boogie_parse.specs.Reading.Outcomes.{Read};
+ghost use Rattle.boogie_parse.specs.Reading.ExpressionReading.{expression, done};
+ghost use Rattle.boogie_parse.specs.Ties.ExpressionLaws.{Ends, Grows};
 
 /// What is read as an expression is one by the grammar, within the limits. Where nothing follows that would carry it on, each expression by the
 /// grammar and within the limits is read as it. More room for parentheses and depth changes no answer but a limit.

@@ -1,8 +1,8 @@
 //! The operators of expressions, and the marks around them.
 
 ghost use Rattle.std.specs.Prelude.{◌≡◌};
-ghost use Rattle.boogie_parse.specs.ExpressionReading as reading;
-ghost use Rattle.boogie_parse.specs.ExpressionViews.{seen, behind};
+ghost use Rattle.boogie_parse.specs.Reading.ExpressionReading as reading;
+ghost use Rattle.boogie_parse.specs.Ties.ExpressionViews.{seen, behind};
 
 use crate::symbols::{Fixed, Sign, Symbol};
 use boogie_tree::{Level, Op, Span};

@@ -1,6 +1,6 @@
 use Rattle.std.proofs.Common.{◌≡◌, ◌∙◌, ap, slice_get, rules}
-use Rattle.typing_rules.specs.TypedParts.{TypedParts, typed_program}
-use Rattle.boogie_points.specs.Told.{ways_of}
+use Rattle.typed_tree.specs.TypingRules.TypedParts.{TypedParts, typed_program}
+use Rattle.boogie_run.specs.BoogiePoints.Told.{ways_of}
 use Rattle.boogie_run.specs.Steps.{Went, went_if, finished, modifies_of}
 use Rattle.boogie_run.specs.RunView.{config_of}
 use Rattle.boogie_run.specs.StepView.{happening}

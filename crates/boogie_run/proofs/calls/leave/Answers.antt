@@ -1,5 +1,5 @@
 use Rattle.std.proofs.Common.{◌≡◌, ◌∙◌, ℤ, List, ap, arith, refl}
-use Rattle.typing_rules.specs.TypedParts.{typed_program}
+use Rattle.typed_tree.specs.TypingRules.TypedParts.{typed_program}
 use Rattle.boogie_run.specs.Steps.{left, Went}
 use Rattle.boogie_run.specs.RunView.{frames_of, config_with, config_of}
 use Rattle.boogie_run.specs.StepView.{returned}

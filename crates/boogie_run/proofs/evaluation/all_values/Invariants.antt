@@ -2,7 +2,7 @@ use Rattle.std.proofs.Common.{◌≡◌, map, ◌++◌, drop}
 use Rattle.typed_tree.specs.TypedView as view
 use Rattle.boogie_run.specs.Steps.{values}
 use Rattle.boogie_run.specs.Fitting.{AllFit}
-use Rattle.boogie_run.specs.Environments.{state}
+use Rattle.boogie_run.specs.Ties.Environments.{state}
 use Rattle.boogie_run.proofs.evaluation.all_values.Given as goal
 
 abbrev pub invariant-loop-expr : goal.invariant-loop-expr

@@ -1,4 +1,4 @@
-use Rattle.boogie_run.specs.Environments.{state}
+use Rattle.boogie_run.specs.Ties.Environments.{state}
 use Rattle.boogie_run.proofs.Members.{passed_past}
 use Rattle.boogie_run.proofs.evaluation.argument.Goals as goal
 

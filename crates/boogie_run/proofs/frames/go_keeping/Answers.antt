@@ -1,6 +1,6 @@
 use Rattle.std.proofs.Common.{◌-◌, arith, refl}
 use Rattle.std.specs.Vec.{vec_len}
-use Rattle.typing_rules.specs.TypedParts.{typed_program}
+use Rattle.typed_tree.specs.TypingRules.TypedParts.{typed_program}
 use Rattle.boogie_run.proofs.FitLemmas.{top_room, fits_with_top}
 use Rattle.boogie_run.proofs.frames.go_keeping.Goals as goal
 

@@ -1,6 +1,6 @@
 use Rattle.std.proofs.Common.{◌-◌, rules, arith, refl}
 use Rattle.std.specs.Vec.{vec_len}
-use Rattle.typing_rules.specs.TypedParts.{typed_program}
+use Rattle.typed_tree.specs.TypingRules.TypedParts.{typed_program}
 use Rattle.boogie_run.proofs.FrameLemmas.{same_top, taken_back}
 use Rattle.boogie_run.proofs.FitLemmas.{top_room, fits_with_top, fits_at_point}
 use Rattle.boogie_run.proofs.frames.go_with.Goals as goal

@@ -1,7 +1,7 @@
 use Rattle.std.proofs.Common.{◌-◌, ap, sym, ◌∙◌, arith, refl}
 use Rattle.std.specs.Vec.{vec_len}
-use Rattle.typing_rules.specs.TypedParts.{typed_program}
-use Rattle.boogie_points.specs.Points.{settled, past_first}
+use Rattle.typed_tree.specs.TypingRules.TypedParts.{typed_program}
+use Rattle.boogie_run.specs.BoogiePoints.Points.{settled, past_first}
 use Rattle.boogie_run.specs.Configurations.{Frame}
 use Rattle.boogie_run.proofs.FrameLemmas.{top_is, moved_top}
 use Rattle.boogie_run.proofs.FitLemmas.{top_room, fits_with_top}

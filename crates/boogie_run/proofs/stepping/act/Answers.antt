@@ -1,8 +1,8 @@
 use Rattle.std.proofs.Common.{ap, sym, subst, ◌∙◌, FitsSigned}
 use Rattle.std.specs.Int.{w128}
 use Rattle.std.proofs.lemmas.Int.{to_z-of_z}
-use Rattle.boogie_points.specs.Told.{Told}
-use Rattle.boogie_points.specs.View.{action_view}
+use Rattle.boogie_run.specs.BoogiePoints.Told.{Told}
+use Rattle.boogie_run.specs.BoogiePoints.View.{action_view}
 use Rattle.boogie_run.specs.StepView.{Performs}
 use Rattle.boogie_run.proofs.stepping.act.Goals as goal
 

@@ -1,8 +1,8 @@
 use Rattle.std.proofs.Common.{◌≡◌, ◌<◌, ◌≤◌, ℕ, List, length, slice_get, ap, sym, ◌∙◌, arith}
 use Rattle.boogie_tree.specs.declared.tree.VarInfo.{VarInfo}
-use Rattle.typing_rules.specs.TypedParts.{TypedParts, typed_program}
-use Rattle.boogie_points.specs.Actions.{action_at}
-use Rattle.boogie_points.specs.Told.{Told, told}
+use Rattle.typed_tree.specs.TypingRules.TypedParts.{TypedParts, typed_program}
+use Rattle.boogie_run.specs.BoogiePoints.Actions.{action_at}
+use Rattle.boogie_run.specs.BoogiePoints.Told.{Told, told}
 use Rattle.boogie_run.specs.Configurations.{Frame}
 use Rattle.boogie_run.specs.Needs.{need_of, locals_at}
 use Rattle.boogie_run.specs.ToldActs.{told_need}

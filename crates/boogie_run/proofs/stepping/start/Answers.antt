@@ -1,5 +1,5 @@
 use Rattle.std.proofs.Common.{subst, sym, ◌∙◌, refl}
-use Rattle.typing_rules.specs.TypedParts.{typed_program}
+use Rattle.typed_tree.specs.TypingRules.TypedParts.{typed_program}
 use Rattle.boogie_run.specs.RunView.{HaveRoom}
 use Rattle.boogie_run.proofs.FrameLemmas.{first_of, some_frame}
 use Rattle.boogie_run.proofs.stepping.start.Goals as goal

@@ -2,7 +2,7 @@ use Rattle.std.proofs.Common.{pos, get_or, subst, arith, rules, FitsSigned}
 use Rattle.std.specs.Int.{w128}
 use Rattle.std.proofs.lemmas.Int.{to_z-of_z}
 use Rattle.boogie_tree.specs.declared.tree.Column.TheVariants.{Global}
-use Rattle.typing_rules.specs.TypedParts.{TypedParts}
+use Rattle.typed_tree.specs.TypingRules.TypedParts.{TypedParts}
 use Rattle.boogie_run.specs.RunView.{config_of, FitsProgram}
 use Rattle.boogie_run.proofs.WriteSteps.{written_more}
 use Rattle.boogie_run.proofs.writing.write_all.Goals as goal

@@ -3,9 +3,9 @@ use Rattle.std.proofs.lemmas.List.{drop_all, map-append}
 use Rattle.std.proofs.lemmas.Result.{err_from_is_err_and}
 use Rattle.boogie_tree.specs.View as view
 use Rattle.typed_tree.specs.TypedView as typed
-use Rattle.boogie_types.specs.PlaceViews.{place_outside}
+use Rattle.boogie_types.specs.Ties.PlaceViews.{place_outside}
 use Rattle.boogie_types.specs.Naming.{hidden_arguments, named_arguments, put_aside}
-use Rattle.boogie_types.specs.Making.{made}
+use Rattle.boogie_types.specs.Ties.Making.{made}
 use Rattle.boogie_types.proofs.EachLaws.{made_all}
 use Rattle.boogie_types.proofs.FaultLaws.{fault_of_member}
 use Rattle.boogie_types.proofs.CallLaws.{values_go, aside_go, count_go, no_arguments}

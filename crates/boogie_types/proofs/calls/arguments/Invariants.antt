@@ -2,8 +2,8 @@ use Rattle.std.proofs.Common.{◌≡◌, ◌+◌, map, drop, length}
 use Rattle.boogie_tree.specs.View as view
 use Rattle.typed_tree.specs.TypedView as typed
 use Rattle.boogie_types.specs.Naming.{named_arguments, hidden_arguments, put_aside}
-use Rattle.boogie_types.specs.PlaceViews.{place_outside}
-use Rattle.boogie_types.specs.Making.{made}
+use Rattle.boogie_types.specs.Ties.PlaceViews.{place_outside}
+use Rattle.boogie_types.specs.Ties.Making.{made}
 use Rattle.boogie_types.proofs.calls.arguments.Given as goal
 
 -- what is made and what is still to be made is the whole

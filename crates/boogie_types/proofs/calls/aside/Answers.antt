@@ -1,6 +1,6 @@
 use Rattle.std.proofs.Common.{ap, sym, ◌∙◌}
 use Rattle.typed_tree.specs.TypedTree as typed
-use Rattle.boogie_types.specs.PlaceViews.{place_outside}
+use Rattle.boogie_types.specs.Ties.PlaceViews.{place_outside}
 use Rattle.boogie_types.specs.Naming.{hidden_column}
 use Rattle.boogie_types.proofs.Seen.{place_seen}
 use Rattle.boogie_types.proofs.calls.aside.Goals as goal

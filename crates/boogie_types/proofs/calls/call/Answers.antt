@@ -2,7 +2,7 @@ use Rattle.std.proofs.Common.{ap, sym, ◌∙◌, ◌++◌, ◌∷◌, [], map, 
 use Rattle.std.proofs.lemmas.Result.{err_from_is_err_and, on_ok_weaker}
 use Rattle.boogie_tree.specs.View as view
 use Rattle.typed_tree.specs.TypedView as typed
-use Rattle.boogie_types.specs.PlaceViews.{place_outside}
+use Rattle.boogie_types.specs.Ties.PlaceViews.{place_outside}
 use Rattle.boogie_types.proofs.Seen.{call_typed}
 use Rattle.boogie_types.proofs.CallLaws.{call_made, params_numbered}
 use Rattle.boogie_types.proofs.FaultLaws.{call_unknown, call_target, call_argument}

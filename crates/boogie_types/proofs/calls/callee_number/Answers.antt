@@ -1,6 +1,6 @@
 use Rattle.std.proofs.Common.{ap, ◌∙◌}
-use Rattle.boogie_types.specs.Numbers.{number_of_name}
-use Rattle.boogie_types.specs.Referred.{procedures_by}
+use Rattle.boogie_types.specs.Ties.Numbers.{number_of_name}
+use Rattle.boogie_types.specs.Ties.Referred.{procedures_by}
 use Rattle.boogie_types.proofs.CallLaws.{procedure_place}
 use Rattle.boogie_types.proofs.calls.callee_number.Goals as goal
 

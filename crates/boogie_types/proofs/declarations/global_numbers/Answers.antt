@@ -3,7 +3,7 @@ use Rattle.std.proofs.lemmas.Result.{IfOk-weaker, IfErr-weaker}
 use Rattle.boogie_tree.specs.View as view
 use Rattle.boogie_tree.specs.declared.tree.Name.{Name}
 use Rattle.boogie_types.specs.BrokenNames.{second_global}
-use Rattle.boogie_types.specs.Numbers.{texts, IsTwiceFault}
+use Rattle.boogie_types.specs.Ties.Numbers.{texts, IsTwiceFault}
 use Rattle.boogie_types.specs.Sorted.{global_names}
 use Rattle.boogie_types.proofs.ShapeNames.{global_texts}
 use Rattle.boogie_types.proofs.Refusals.{twice_refused}

@@ -3,8 +3,8 @@ use Rattle.std.proofs.lemmas.Result.{err_from_is_err_and}
 use Rattle.boogie_tree.specs.View as view
 use Rattle.boogie_tree.specs.Tree.{Procedure}
 use Rattle.boogie_types.specs.BrokenNames.{second_implementation}
-use Rattle.boogie_types.specs.Numbers.{IsTwiceFault}
-use Rattle.boogie_types.specs.Referred.{procedures_by}
+use Rattle.boogie_types.specs.Ties.Numbers.{IsTwiceFault}
+use Rattle.boogie_types.specs.Ties.Referred.{procedures_by}
 use Rattle.boogie_types.specs.Sorted.{implementations_of}
 use Rattle.boogie_types.proofs.Refusals.{twice_refused, implementations_refused}
 use Rattle.boogie_types.proofs.declarations.implementations.Goals as goal

@@ -3,7 +3,7 @@ use Rattle.std.proofs.lemmas.Result.{IfErr-weaker}
 use Rattle.boogie_tree.specs.View as view
 use Rattle.boogie_tree.specs.Tree.{Procedure}
 use Rattle.boogie_types.specs.BrokenNames.{second_procedure}
-use Rattle.boogie_types.specs.Numbers.{IsTwiceFault}
+use Rattle.boogie_types.specs.Ties.Numbers.{IsTwiceFault}
 use Rattle.boogie_types.specs.Sorted.{procedures_of}
 use Rattle.boogie_types.proofs.Refusals.{twice_refused}
 use Rattle.boogie_types.proofs.declarations.procedures.Goals as goal

@@ -3,8 +3,8 @@ use Rattle.std.specs.List.{list_all}
 use Rattle.boogie_tree.specs.View as view
 use Rattle.typed_tree.specs.TypedView as typed
 use Rattle.boogie_types.specs.Naming.{each}
-use Rattle.boogie_types.specs.Making.{made}
-use Rattle.boogie_types.specs.Referred.{procedures_by}
+use Rattle.boogie_types.specs.Ties.Making.{made}
+use Rattle.boogie_types.specs.Ties.Referred.{procedures_by}
 use Rattle.boogie_types.specs.Resolved.{has_sets, named_procedure}
 use Rattle.boogie_types.specs.Sorted.{body_of}
 use Rattle.boogie_types.proofs.declarations.procedures_named.Given as goal

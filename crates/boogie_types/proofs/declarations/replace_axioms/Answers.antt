@@ -1,7 +1,7 @@
 use Rattle.std.proofs.Common.{◌∙◌, ap, map}
 use Rattle.std.proofs.lemmas.Result.{err_from_is_err_and}
 use Rattle.boogie_tree.specs.View as view
-use Rattle.boogie_types.specs.Referred.{expressions_by}
+use Rattle.boogie_types.specs.Ties.Referred.{expressions_by}
 use Rattle.boogie_types.proofs.Refusals.{axioms_refused}
 use Rattle.boogie_types.proofs.declarations.replace_axioms.Goals as goal
 

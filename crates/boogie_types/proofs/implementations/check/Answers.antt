@@ -2,8 +2,8 @@ use Rattle.std.proofs.Common.{◌∙◌, ap, sym, Option, Bor}
 use Rattle.std.specs.Option.{option_map}
 use Rattle.boogie_tree.specs.declared.tree.Proc.{Proc}
 use Rattle.boogie_tree.specs.View as view
-use Rattle.boogie_types.specs.DeclarationFaults.{no_procedure, other_body, other_variables}
-use Rattle.boogie_types.specs.Referred.{procedures_by}
+use Rattle.boogie_types.specs.Ties.DeclarationFaults.{no_procedure, other_body, other_variables}
+use Rattle.boogie_types.specs.Ties.Referred.{procedures_by}
 use Rattle.boogie_types.specs.Sorted.{first_named}
 use Rattle.boogie_types.proofs.ImplementationLaws.{body_is_there}
 use Rattle.boogie_types.proofs.implementations.check.Goals as goal

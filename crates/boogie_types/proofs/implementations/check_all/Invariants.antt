@@ -1,7 +1,7 @@
 use Rattle.std.proofs.Common.{◌≡◌, drop}
 use Rattle.std.specs.List.{list_all}
-use Rattle.typing_rules.specs.Rules.{meets}
-use Rattle.boogie_types.specs.Referred.{procedures_by}
+use Rattle.typed_tree.specs.TypingRules.Rules.{meets}
+use Rattle.boogie_types.specs.Ties.Referred.{procedures_by}
 use Rattle.boogie_types.specs.Resolved.{implements}
 use Rattle.boogie_types.specs.Sorted.{first_named}
 use Rattle.boogie_types.proofs.implementations.check_all.Given as goal

@@ -1,6 +1,6 @@
 use Rattle.std.proofs.Common.{◌≡◌, ◌++◌, drop}
 use Rattle.boogie_tree.specs.View as view
-use Rattle.boogie_types.specs.Numbers.{named_by}
+use Rattle.boogie_types.specs.Ties.Numbers.{named_by}
 use Rattle.boogie_types.specs.Sorted.{block_labels}
 use Rattle.boogie_types.proofs.Weights.{weight, block_weight}
 use Rattle.boogie_types.proofs.label_names.+label_names.Given as goal

@@ -1,7 +1,7 @@
 use Rattle.std.proofs.Common.{◌≡◌, drop}
 use Rattle.typed_tree.specs.Scope.{seen}
 use Rattle.boogie_types.specs.Naming.{columns_of}
-use Rattle.boogie_types.specs.Making.{made}
+use Rattle.boogie_types.specs.Ties.Making.{made}
 use Rattle.boogie_types.proofs.lists.columns.Given as goal
 
 abbrev pub invariant-loop-target : goal.invariant-loop-target

@@ -3,7 +3,7 @@ use Rattle.boogie_tree.specs.View as view
 use Rattle.typed_tree.specs.TypedView as typed
 use Rattle.typed_tree.specs.Scope.{seen}
 use Rattle.boogie_types.specs.Naming.{each, named_invariant}
-use Rattle.boogie_types.specs.Making.{made}
+use Rattle.boogie_types.specs.Ties.Making.{made}
 use Rattle.boogie_types.proofs.lists.invariants.Given as goal
 
 abbrev pub invariant-loop-each : goal.invariant-loop-each

@@ -1,5 +1,5 @@
 use Rattle.std.proofs.Common.{◌≡◌, ◌++◌, drop}
-use Rattle.boogie_types.specs.Numbers.{named_by}
+use Rattle.boogie_types.specs.Ties.Numbers.{named_by}
 use Rattle.boogie_types.proofs.lists.references.Given as goal
 
 abbrev pub invariant-loop-name : goal.invariant-loop-name

@@ -1,6 +1,6 @@
 use Rattle.std.proofs.Common.{◌≡◌, drop}
-use Rattle.boogie_types.specs.Modified.{modified_numbers}
-use Rattle.boogie_types.specs.Making.{made}
+use Rattle.boogie_types.specs.Ties.Modified.{modified_numbers}
+use Rattle.boogie_types.specs.Ties.Making.{made}
 use Rattle.boogie_types.proofs.modifies.add_modified.Given as goal
 
 abbrev pub invariant-loop-name : goal.invariant-loop-name

@@ -2,8 +2,8 @@ use Rattle.std.proofs.Common.{ℕ, ◌+◌, map, drop, Some, Vec, Global, subst,
 use Rattle.std.proofs.lemmas.Result.{err_from_is_err_and}
 use Rattle.boogie_tree.specs.View as view
 use Rattle.boogie_types.specs.Sorted.{modified_in}
-use Rattle.boogie_types.specs.Making.{made}
-use Rattle.boogie_types.specs.Modified.{modified_numbers, AreModifiedFault}
+use Rattle.boogie_types.specs.Ties.Making.{made}
+use Rattle.boogie_types.specs.Ties.Modified.{modified_numbers, AreModifiedFault}
 use Rattle.boogie_types.proofs.ModifiedLaws.{fault_of_list, list_turn, other_turn, no_list}
 use Rattle.boogie_types.proofs.modifies.all_modified.Goals as goal
 use Rattle.boogie_types.proofs.modifies.all_modified.Goals.{in-Modifies+in_ok-add_modified, in_default}

@@ -1,8 +1,8 @@
 use Rattle.std.proofs.Common.{◌≡◌, map, drop}
 use Rattle.boogie_tree.specs.View as view
 use Rattle.boogie_types.specs.Sorted.{modified_in}
-use Rattle.boogie_types.specs.Modified.{modified_numbers}
-use Rattle.boogie_types.specs.Making.{made}
+use Rattle.boogie_types.specs.Ties.Modified.{modified_numbers}
+use Rattle.boogie_types.specs.Ties.Making.{made}
 use Rattle.boogie_types.proofs.modifies.all_modified.Given as goal
 
 abbrev pub invariant-loop-spec : goal.invariant-loop-spec

@@ -1,5 +1,5 @@
 use Rattle.std.proofs.Common.{ap, sym, ◌∙◌}
-use Rattle.boogie_types.specs.Numbers.{number_of_name}
+use Rattle.boogie_types.specs.Ties.Numbers.{number_of_name}
 use Rattle.boogie_types.proofs.ModifiedLaws.{unknown_modified_fault, constant_modified_fault, modified_is}
 use Rattle.boogie_types.proofs.modifies.modified.Goals as goal
 

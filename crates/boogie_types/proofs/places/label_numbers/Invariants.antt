@@ -1,7 +1,7 @@
 use Rattle.std.proofs.Common.{◌≡◌, drop}
 use Rattle.boogie_types.specs.Naming.{each}
-use Rattle.boogie_types.specs.Numbers.{number_of_name}
-use Rattle.boogie_types.specs.Making.{made}
+use Rattle.boogie_types.specs.Ties.Numbers.{number_of_name}
+use Rattle.boogie_types.specs.Ties.Making.{made}
 use Rattle.boogie_types.proofs.places.label_numbers.Given as goal
 
 abbrev pub invariant-loop-target : goal.invariant-loop-target

@@ -1,7 +1,7 @@
 use Rattle.std.proofs.Common.{◌≡◌, drop}
 use Rattle.std.specs.List.{position_from}
 use Rattle.boogie_types.specs.Naming.{is_before_loop}
-use Rattle.boogie_types.specs.Places.{loops_by}
+use Rattle.boogie_types.specs.Ties.Places.{loops_by}
 use Rattle.boogie_types.proofs.places.levels.Given as goal
 
 abbrev pub invariant-loop-level : goal.invariant-loop-level

@@ -1,10 +1,10 @@
 use Rattle.std.proofs.Common.{map, subst}
 use Rattle.std.proofs.lemmas.Result.{err_from_is_err_and}
 use Rattle.boogie_tree.specs.View as view
-use Rattle.boogie_types.specs.Bodies.{body_by}
-use Rattle.boogie_types.specs.Referred.{procedures_by}
+use Rattle.boogie_types.specs.Ties.Bodies.{body_by}
+use Rattle.boogie_types.specs.Ties.Referred.{procedures_by}
 use Rattle.boogie_types.specs.Sorted.{modified_in}
-use Rattle.boogie_types.specs.Modified.{AreModifiedFault}
+use Rattle.boogie_types.specs.Ties.Modified.{AreModifiedFault}
 use Rattle.boogie_types.proofs.ProcedureLaws.{modifies_fault, body_fault}
 use Rattle.boogie_types.proofs.procedures.make_parts.Goals as goal
 

@@ -1,8 +1,8 @@
 use Rattle.std.proofs.Common.{map, ap, sym, ◌∙◌}
 use Rattle.std.proofs.lemmas.Result.{err_from_is_err_and}
 use Rattle.boogie_tree.specs.View as view
-use Rattle.boogie_types.specs.Numbers.{info_names}
-use Rattle.boogie_types.specs.Bodies.{body_by}
+use Rattle.boogie_types.specs.Ties.Numbers.{info_names}
+use Rattle.boogie_types.specs.Ties.Bodies.{body_by}
 use Rattle.boogie_types.proofs.VariableLaws.{names_of_locals}
 use Rattle.boogie_types.proofs.ProcedureLaws.{refused_variable, refused_label, refused_part}
 use Rattle.boogie_types.proofs.procedures.procedure.Goals as goal

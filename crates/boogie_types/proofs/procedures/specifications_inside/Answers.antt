@@ -2,7 +2,7 @@ use Rattle.std.proofs.Common.{◌≡◌, ℕ, ◌+◌, ◌≤◌, take, map, len
 use Rattle.std.proofs.lemmas.Result.{MatchResult-weaker}
 use Rattle.boogie_tree.specs.View as view
 use Rattle.typed_tree.specs.Scope.{seen}
-use Rattle.boogie_types.specs.Specifications.{specifications_in, AreSpecificationsFault}
+use Rattle.boogie_types.specs.Ties.Specifications.{specifications_in, AreSpecificationsFault}
 use Rattle.boogie_types.proofs.VariableLaws.{first_seen}
 use Rattle.boogie_types.proofs.ProcedureLaws.{specifications_seen, specifications_fault}
 use Rattle.boogie_types.proofs.procedures.specifications_inside.Goals as goal

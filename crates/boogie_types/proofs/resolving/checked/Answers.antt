@@ -4,9 +4,9 @@ use Rattle.boogie_tree.specs.View as view
 use Rattle.boogie_tree.specs.declared.tree.VarInfo.{VarInfo}
 use Rattle.typed_tree.specs.declared.types.TExpr.{TExpr}
 use Rattle.typed_tree.specs.declared.types.TProc.{TProc}
-use Rattle.typing_rules.specs.BrokenTyping.{IsTypingFault}
-use Rattle.typing_rules.specs.TypedParts.{program_of}
-use Rattle.boogie_types.specs.Replaced.{program_by}
+use Rattle.typed_tree.specs.TypingRules.BrokenTyping.{IsTypingFault}
+use Rattle.typed_tree.specs.TypingRules.TypedParts.{program_of}
+use Rattle.boogie_types.specs.Ties.Replaced.{program_by}
 use Rattle.boogie_types.proofs.Refusals.{typing_refused}
 use Rattle.boogie_types.proofs.resolving.checked.Goals as goal
 

@@ -6,7 +6,7 @@ use Rattle.boogie_tree.specs.Names.{is_name}
 use Rattle.boogie_tree.specs.View as view
 use Rattle.boogie_tree.specs.Tree.{Procedure}
 use Rattle.typed_tree.specs.TypedTree.{TypedProgram}
-use Rattle.boogie_types.specs.Replaced.{program_by, if_entry}
+use Rattle.boogie_types.specs.Ties.Replaced.{program_by, if_entry}
 use Rattle.boogie_types.proofs.Shape.{named_are_names}
 use Rattle.boogie_types.proofs.ResolvedLaws.{no_entry_is_fault, typed_from_entry, resolved_from_entry}
 use Rattle.boogie_types.proofs.resolving.resolved.Goals as goal

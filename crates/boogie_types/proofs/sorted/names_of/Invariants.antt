@@ -1,6 +1,6 @@
 use Rattle.std.proofs.Common.{◌≡◌, ◌++◌, map, drop}
-use Rattle.boogie_types.specs.Numbers.{named_by}
-use Rattle.boogie_types.specs.Referred.{procedures_by}
+use Rattle.boogie_types.specs.Ties.Numbers.{named_by}
+use Rattle.boogie_types.specs.Ties.Referred.{procedures_by}
 use Rattle.boogie_types.proofs.sorted.names_of.Given as goal
 
 abbrev pub invariant-loop-procedure : goal.invariant-loop-procedure

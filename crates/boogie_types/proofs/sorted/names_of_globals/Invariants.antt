@@ -1,7 +1,7 @@
 use Rattle.std.proofs.Common.{◌≡◌, ◌++◌, map, drop}
 use Rattle.boogie_tree.specs.View as view
 use Rattle.boogie_types.specs.Sorted.{global_names}
-use Rattle.boogie_types.specs.Numbers.{named_by}
+use Rattle.boogie_types.specs.Ties.Numbers.{named_by}
 use Rattle.boogie_types.proofs.sorted.names_of_globals.Given as goal
 
 abbrev pub invariant-loop-declaration : goal.invariant-loop-declaration

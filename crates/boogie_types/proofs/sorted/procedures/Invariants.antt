@@ -1,7 +1,7 @@
 use Rattle.std.proofs.Common.{◌≡◌, ◌++◌, map, drop}
 use Rattle.boogie_tree.specs.View as view
 use Rattle.boogie_types.specs.Sorted.{procedures_of}
-use Rattle.boogie_types.specs.Referred.{procedures_by}
+use Rattle.boogie_types.specs.Ties.Referred.{procedures_by}
 use Rattle.boogie_types.proofs.sorted.procedures.Given as goal
 
 abbrev pub invariant-loop-declaration : goal.invariant-loop-declaration

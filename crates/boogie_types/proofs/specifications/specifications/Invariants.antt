@@ -2,8 +2,8 @@ use Rattle.std.proofs.Common.{◌≡◌, map, drop}
 use Rattle.boogie_tree.specs.View as view
 use Rattle.typed_tree.specs.TypedView as typed
 use Rattle.typed_tree.specs.Scope.{seen}
-use Rattle.boogie_types.specs.Making.{made}
-use Rattle.boogie_types.specs.Specifications.{specifications_in}
+use Rattle.boogie_types.specs.Ties.Making.{made}
+use Rattle.boogie_types.specs.Ties.Specifications.{specifications_in}
 use Rattle.boogie_types.proofs.specifications.specifications.Given as goal
 
 abbrev pub invariant-loop-spec : goal.invariant-loop-spec

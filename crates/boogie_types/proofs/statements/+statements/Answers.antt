@@ -3,12 +3,12 @@ use Rattle.std.proofs.lemmas.List.{drop_all}
 use Rattle.std.proofs.lemmas.Result.{err_from_is_err_and, MatchResult-weaker, on_ok_weaker}
 use Rattle.boogie_tree.specs.View as view
 use Rattle.typed_tree.specs.TypedView as typed
-use Rattle.boogie_types.specs.Places.{loops_by, label_by}
-use Rattle.boogie_types.specs.PlaceViews.{place_at}
+use Rattle.boogie_types.specs.Ties.Places.{loops_by, label_by}
+use Rattle.boogie_types.specs.Ties.PlaceViews.{place_at}
 use Rattle.boogie_types.specs.Naming.{named_statement, named_block, hidden_in}
-use Rattle.boogie_types.specs.Making.{made, block_made}
+use Rattle.boogie_types.specs.Ties.Making.{made, block_made}
 use Rattle.boogie_types.specs.BrokenNames.{IsMisnamedIn}
-use Rattle.boogie_types.specs.NamingFaults.{IsStatementFault, IsBlockFault}
+use Rattle.boogie_types.specs.Ties.NamingFaults.{IsStatementFault, IsBlockFault}
 use Rattle.boogie_types.proofs.BlockLaws.{block_anywhere, block_turn, block_end, hidden_turn, faults_turn, fault_turn}
 use Rattle.boogie_types.proofs.Weights.{weight, block_weight, member_weight}
 use Rattle.boogie_types.proofs.Seen.{assert_seen, assume_seen, havoc_seen, assign_seen, call_seen, if_seen, while_seen, break_seen, goto_seen, label_seen}

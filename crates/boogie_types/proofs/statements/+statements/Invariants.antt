@@ -4,9 +4,9 @@ use Rattle.typed_tree.specs.TypedView as typed
 use Rattle.typed_tree.specs.declared.fault.TypeFault.{TypeFault}
 use Rattle.boogie_types.specs.BrokenNames.{IsMisnamedIn}
 use Rattle.boogie_types.specs.Naming.{named_block, hidden_in_block}
-use Rattle.boogie_types.specs.Places.{label_by}
-use Rattle.boogie_types.specs.PlaceViews.{place_at}
-use Rattle.boogie_types.specs.Making.{block_made}
+use Rattle.boogie_types.specs.Ties.Places.{label_by}
+use Rattle.boogie_types.specs.Ties.PlaceViews.{place_at}
+use Rattle.boogie_types.specs.Ties.Making.{block_made}
 use Rattle.std.proofs.Common.{◌+◌, None}
 use Rattle.boogie_types.proofs.Weights.{weight, block_weight}
 use Rattle.boogie_types.proofs.statements.+statements.Given as goal

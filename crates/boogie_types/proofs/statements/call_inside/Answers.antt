@@ -1,8 +1,8 @@
 use Rattle.std.proofs.lemmas.Result.{MatchResult-weaker}
 use Rattle.boogie_tree.specs.View as view
 use Rattle.std.proofs.Common.{map}
-use Rattle.boogie_types.specs.Places.{loops_by}
-use Rattle.boogie_types.specs.PlaceViews.{place_outside}
+use Rattle.boogie_types.specs.Ties.Places.{loops_by}
+use Rattle.boogie_types.specs.Ties.PlaceViews.{place_outside}
 use Rattle.boogie_types.proofs.CallLaws.{call_fault_anywhere}
 use Rattle.boogie_types.proofs.statements.call_inside.Goals as goal
 

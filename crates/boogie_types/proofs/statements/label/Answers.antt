@@ -1,5 +1,5 @@
 use Rattle.std.proofs.Common.{ap, sym, ◌∙◌}
-use Rattle.boogie_types.specs.Numbers.{number_of_name}
+use Rattle.boogie_types.specs.Ties.Numbers.{number_of_name}
 use Rattle.boogie_types.proofs.FaultLaws.{fault_in_label}
 use Rattle.boogie_types.proofs.statements.label.Goals as goal
 

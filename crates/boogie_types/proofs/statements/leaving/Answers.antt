@@ -1,7 +1,7 @@
 use Rattle.std.proofs.Common.{◌∙◌, sym, ap, refl}
 use Rattle.std.specs.List.{position_from}
 use Rattle.boogie_types.specs.Naming.{is_before_loop}
-use Rattle.boogie_types.specs.Places.{loops_by}
+use Rattle.boogie_types.specs.Ties.Places.{loops_by}
 use Rattle.boogie_types.proofs.statements.leaving.Goals as goal
 
 pub returns-in-None-2-clause-fault : goal.returns-in-None-2-clause-fault

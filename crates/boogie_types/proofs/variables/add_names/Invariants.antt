@@ -1,5 +1,5 @@
 use Rattle.std.proofs.Common.{◌≡◌, ◌++◌, map, drop}
-use Rattle.boogie_types.specs.Numbers.{named_by}
+use Rattle.boogie_types.specs.Ties.Numbers.{named_by}
 use Rattle.boogie_types.proofs.variables.add_names.Given as goal
 
 abbrev pub invariant-loop-variable : goal.invariant-loop-variable

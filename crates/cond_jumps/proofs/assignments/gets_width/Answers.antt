@@ -4,7 +4,7 @@ use Rattle.typed_tree.specs.TypedView.{expression}
 use Rattle.cond_jumps.specs.Environments.{Environment}
 use Rattle.cond_jumps.specs.Frames.{frame_environment}
 use Rattle.cond_jumps.specs.Paths.{paths, linear, gets}
-use Rattle.cond_jumps.specs.WidthView.{IsWidthAnswer}
+use Rattle.cond_jumps.specs.Ties.WidthView.{IsWidthAnswer}
 use Rattle.cond_jumps.proofs.assignments.gets_width.Goals as goal
 
 pub returns-then-branch : goal.returns-then-branch

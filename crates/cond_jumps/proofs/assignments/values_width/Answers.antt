@@ -5,7 +5,7 @@ use Rattle.cond_jumps.specs.Conjunctions.{Plan, is_wide}
 use Rattle.cond_jumps.specs.Environments.{Environment}
 use Rattle.cond_jumps.specs.Frames.{frame_environment}
 use Rattle.cond_jumps.specs.Paths.{assigns}
-use Rattle.cond_jumps.specs.WidthView.{IsWidth}
+use Rattle.cond_jumps.specs.Ties.WidthView.{IsWidth}
 use Rattle.cond_jumps.proofs.EvenLemmas.{frame_even}
 use Rattle.cond_jumps.proofs.AssignAnswers.{gets_value, assigns_step, left_even, step_fault, value_fault}
 use Rattle.cond_jumps.proofs.PairAnswers.{wide, width_handed_on}

@@ -2,7 +2,7 @@ use Rattle.std.proofs.Common.{ℕ, ◌+◌, ◌≤◌, map, length, drop}
 use Rattle.typed_tree.specs.TypedView.{expression}
 use Rattle.cond_jumps.specs.Frames.{frame_environment}
 use Rattle.cond_jumps.specs.Paths.{assigns}
-use Rattle.cond_jumps.specs.WidthView.{IsWidth}
+use Rattle.cond_jumps.specs.Ties.WidthView.{IsWidth}
 use Rattle.cond_jumps.proofs.assignments.values_width.Given as goal
 
 abbrev pub invariant-loop-place : goal.invariant-loop-place

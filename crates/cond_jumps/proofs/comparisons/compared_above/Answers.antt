@@ -1,7 +1,7 @@
 use Rattle.std.proofs.Common.{ap, ◌++◌, Err, refl, FitsSigned}
 use Rattle.std.specs.Int.{w128}
 use Rattle.std.proofs.lemmas.Int.{to_z-of_z}
-use Rattle.cond_jumps.specs.SumView.{sum_of}
+use Rattle.cond_jumps.specs.Ties.SumView.{sum_of}
 use Rattle.cond_jumps.specs.CompareView.{compared_row, compared_list}
 use Rattle.cond_jumps.proofs.ListAnswers.{list_handed_on, compared_fits, compared_too_big, compared_list_is}
 use Rattle.cond_jumps.proofs.comparisons.compared_above.Goals as goal

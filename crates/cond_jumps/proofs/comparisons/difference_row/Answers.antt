@@ -10,7 +10,7 @@ use Rattle.cond_jumps.specs.Conjunctions.{row_fits}
 use Rattle.cond_jumps.specs.declared.totals.Term.{Term}
 use Rattle.cond_jumps.specs.declared.refusal.Refusal.TheVariants.{TooBig}
 use Rattle.cond_jumps.specs.LongView.{long}
-use Rattle.cond_jumps.specs.Totals.{terms_of}
+use Rattle.cond_jumps.specs.Ties.Totals.{terms_of}
 use Rattle.cond_jumps.proofs.comparisons.difference_row.Goals as goal
 
 -- the row that is made

@@ -9,7 +9,7 @@ use Rattle.typed_tree.specs.Values.{truth}
 use Rattle.cond_jumps.specs.Conjunctions.{row_fits}
 use Rattle.cond_jumps.specs.Forms.{Linear}
 use Rattle.cond_jumps.specs.LongView.{long}
-use Rattle.cond_jumps.specs.Totals.{terms_of}
+use Rattle.cond_jumps.specs.Ties.Totals.{terms_of}
 use Rattle.cond_jumps.proofs.comparisons.named_row.Goals as goal
 
 pub returns : goal.returns

@@ -4,7 +4,7 @@ use Rattle.cond_jumps.specs.Comparisons.{equal}
 use Rattle.cond_jumps.specs.Forms.{Linears, column}
 use Rattle.cond_jumps.specs.Frames.{frame_environment}
 use Rattle.cond_jumps.specs.Paths.{linear}
-use Rattle.cond_jumps.specs.SumView.{IsSumOf}
+use Rattle.cond_jumps.specs.Ties.SumView.{IsSumOf}
 use Rattle.cond_jumps.proofs.ComparedAnswers.{own_rows_fit, both_compared, second_refused}
 use Rattle.cond_jumps.proofs.equations.equation.Goals as goal
 

@@ -1,5 +1,5 @@
 use Rattle.cond_jumps.specs.Conjs.{conjunctions}
-use Rattle.cond_jumps.specs.JoinView.{each_moved}
+use Rattle.cond_jumps.specs.Ties.JoinView.{each_moved}
 use Rattle.cond_jumps.proofs.ListTurns.{each_turn}
 use Rattle.cond_jumps.proofs.joining.with.Goals as goal
 

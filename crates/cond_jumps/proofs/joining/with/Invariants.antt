@@ -1,6 +1,6 @@
 use Rattle.std.proofs.Common.{◌≡◌, ◌++◌, drop}
 use Rattle.cond_jumps.specs.Conjs.{conjunctions}
-use Rattle.cond_jumps.specs.JoinView.{each_moved}
+use Rattle.cond_jumps.specs.Ties.JoinView.{each_moved}
 use Rattle.cond_jumps.proofs.joining.with.Given as goal
 
 abbrev pub invariant-loop-conj : goal.invariant-loop-conj

@@ -12,7 +12,7 @@ use Rattle.cond_jumps.specs.Forms.{linear_negated}
 use Rattle.cond_jumps.specs.Frames.{frame_environment, column_place_in}
 use Rattle.cond_jumps.specs.Environments.{Environment}
 use Rattle.cond_jumps.specs.Paths.{linear}
-use Rattle.cond_jumps.specs.SumView.{IsSumOf, IsBoxedAnswer, rows_fit}
+use Rattle.cond_jumps.specs.Ties.SumView.{IsSumOf, IsBoxedAnswer, rows_fit}
 use Rattle.cond_jumps.proofs.AnswerLemmas.{handed_on, combination_answer, second_answer, quotient_answer}
 use Rattle.cond_jumps.proofs.SumFaults.{column_sum_is, opposite_is, first_answer, operand_answer, no_sum_answer, no_quotient_answer}
 use Rattle.cond_jumps.proofs.linear.+linear.Goals as goal

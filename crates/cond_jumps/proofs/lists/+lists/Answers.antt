@@ -6,10 +6,10 @@ use Rattle.cond_jumps.specs.declared.shapes.Shape.TheVariants.{Sums}
 use Rattle.cond_jumps.specs.Conjunctions.{all_fit}
 use Rattle.cond_jumps.specs.Environments.{Environment}
 use Rattle.cond_jumps.specs.Frames.{frame_environment}
-use Rattle.cond_jumps.specs.JoinView.{helpers_by}
+use Rattle.cond_jumps.specs.Ties.JoinView.{helpers_by}
 use Rattle.cond_jumps.specs.ListView.{asked, sums_plan}
 use Rattle.cond_jumps.specs.Moving.{IsEvenPlan}
-use Rattle.cond_jumps.specs.PairView.{ArePlanLists, ArePlanAnswers}
+use Rattle.cond_jumps.specs.Ties.PairView.{ArePlanLists, ArePlanAnswers}
 use Rattle.cond_jumps.specs.Paths.{linear, is_truth, paths}
 use Rattle.cond_jumps.proofs.EvenLemmas.{frame_even, paths_even}
 use Rattle.cond_jumps.proofs.PairAnswers.{lists_shape_answer, lists_at, sum_lists_at}

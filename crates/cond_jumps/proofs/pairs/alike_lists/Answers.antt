@@ -1,4 +1,4 @@
-use Rattle.cond_jumps.specs.PairView.{crossed}
+use Rattle.cond_jumps.specs.Ties.PairView.{crossed}
 use Rattle.cond_jumps.proofs.PairAnswers.{not_asked, is_asked}
 use Rattle.cond_jumps.proofs.PlanAnswers.{crossed_built}
 use Rattle.cond_jumps.proofs.pairs.alike_lists.Goals as goal

@@ -1,6 +1,6 @@
 use Rattle.std.proofs.Common.{◌+◌}
 use Rattle.cond_jumps.specs.Conjunctions.{Then, With}
-use Rattle.cond_jumps.specs.JoinView.{helpers_before}
+use Rattle.cond_jumps.specs.Ties.JoinView.{helpers_before}
 use Rattle.cond_jumps.proofs.PairAnswers.{not_asked, is_asked, was_asked}
 use Rattle.cond_jumps.proofs.PlanAnswers.{then_built, behind_built, numbered_behind}
 use Rattle.cond_jumps.proofs.pairs.both_lists.Goals as goal

@@ -1,6 +1,6 @@
 use Rattle.std.proofs.Common.{neg_ℤ, refl}
 use Rattle.math_facts.specs.Terms.{opposite}
-use Rattle.cond_jumps.specs.Totals.{terms_of}
+use Rattle.cond_jumps.specs.Ties.Totals.{terms_of}
 use Rattle.cond_jumps.proofs.TermTurns.{term_turn}
 use Rattle.cond_jumps.proofs.sums.opposite_terms.Goals as goal
 

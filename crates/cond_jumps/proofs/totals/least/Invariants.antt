@@ -1,5 +1,5 @@
 use Rattle.std.proofs.Common.{◌≡◌, None, drop}
-use Rattle.cond_jumps.specs.Totals.{terms_of, least}
+use Rattle.cond_jumps.specs.Ties.Totals.{terms_of, least}
 use Rattle.cond_jumps.proofs.totals.least.Given as goal
 
 abbrev pub invariant-loop-term : goal.invariant-loop-term

@@ -6,7 +6,7 @@ use Rattle.lin_rows.specs.Rows.{LinearRow}
 use Rattle.lin_rows.specs.Sums.{row_of, SumsFit}
 use Rattle.cond_jumps.specs.Conjunctions.{row_fits}
 use Rattle.cond_jumps.specs.LongView.{long}
-use Rattle.cond_jumps.specs.Totals.{terms_of}
+use Rattle.cond_jumps.specs.Ties.Totals.{terms_of}
 use Rattle.cond_jumps.proofs.TotalLemmas.{not_true, totals_fit_so, totals_row, totals_sums_fit, row_fits_back}
 use Rattle.cond_jumps.proofs.totals.row_from.Goals as goal
 

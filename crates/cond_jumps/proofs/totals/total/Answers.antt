@@ -1,6 +1,6 @@
 use Rattle.math_facts.specs.Terms.{coefficient}
 use Rattle.cond_jumps.specs.LongView.{long}
-use Rattle.cond_jumps.specs.Totals.{terms_of}
+use Rattle.cond_jumps.specs.Ties.Totals.{terms_of}
 use Rattle.cond_jumps.proofs.TotalLemmas.{sum_one}
 use Rattle.cond_jumps.proofs.TotalTurns.{total_begun, total_ended}
 use Rattle.cond_jumps.proofs.totals.total.Goals as goal

@@ -1,7 +1,7 @@
 use Rattle.std.proofs.Common.{◌≡◌, ◌+ℤ◌, drop}
 use Rattle.math_facts.specs.Terms.{coefficient}
 use Rattle.cond_jumps.specs.LongView.{long}
-use Rattle.cond_jumps.specs.Totals.{terms_of}
+use Rattle.cond_jumps.specs.Ties.Totals.{terms_of}
 use Rattle.cond_jumps.proofs.totals.total.Given as goal
 
 abbrev pub invariant-loop-term : goal.invariant-loop-term

@@ -2,7 +2,7 @@ use Rattle.std.proofs.Common.{rules, ◌≡◌, ◌≤◌, ◌<◌, ◌+◌, ◌
 use Rattle.std.specs.Int.{w128}
 use Rattle.std.proofs.lemmas.Int.{to_z-of_z}
 use Rattle.math_facts.specs.Fits.{Fits}
-use Rattle.cond_jumps.specs.Totals.{terms_of}
+use Rattle.cond_jumps.specs.Ties.Totals.{terms_of}
 use Rattle.cond_jumps.proofs.TotalLemmas.{least_from, totals_step, totals_end}
 use Rattle.cond_jumps.proofs.totals.totals.Goals as goal
 

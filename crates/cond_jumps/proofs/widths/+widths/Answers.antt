@@ -8,7 +8,7 @@ use Rattle.cond_jumps.specs.Environments.{Environment}
 use Rattle.cond_jumps.specs.Frames.{frame_environment}
 use Rattle.cond_jumps.specs.ListView.{asked, sums_plan}
 use Rattle.cond_jumps.specs.Moving.{IsEvenPlan}
-use Rattle.cond_jumps.specs.PairView.{AreWidths, AreWidthAnswers}
+use Rattle.cond_jumps.specs.Ties.PairView.{AreWidths, AreWidthAnswers}
 use Rattle.cond_jumps.specs.Paths.{linear, is_truth, paths}
 use Rattle.cond_jumps.proofs.EvenLemmas.{frame_even, paths_even}
 use Rattle.cond_jumps.proofs.PairAnswers.{widths_shape_answer, widths_at}

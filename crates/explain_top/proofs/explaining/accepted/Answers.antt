@@ -1,5 +1,5 @@
 use Rattle.std.proofs.Common.{◌≡◌, Err}
-use Rattle.coarse_lines.specs.declared.fault.CoarseFault.TheVariants.{Line, Triple}
+use Rattle.proof_names.specs.declared.coarse_lines.fault.CoarseFault.TheVariants.{Line, Triple}
 use Rattle.explain_top.proofs.ExplainLaws.{line_differs, line_is_missing}
 use Rattle.explain_top.proofs.explaining.accepted.Goals as goal
 

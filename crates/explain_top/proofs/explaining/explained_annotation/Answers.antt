@@ -1,5 +1,5 @@
 use Rattle.std.proofs.lemmas.Result.{IfOk-weaker}
-use Rattle.typing_rules.specs.TypedParts.{typed_program}
+use Rattle.typed_tree.specs.TypingRules.TypedParts.{typed_program}
 use Rattle.proof_names.specs.Outlines.{sketch}
 use Rattle.text_reports.specs.Answers.{answer_of}
 use Rattle.explain_top.specs.Report.{accepted}

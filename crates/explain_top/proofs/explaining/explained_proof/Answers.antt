@@ -1,6 +1,6 @@
 use Rattle.std.proofs.Common.{◌∙◌, ℕ, List, rules, ap, subst}
 use Rattle.std.proofs.lemmas.Result.{IfOk-weaker}
-use Rattle.typing_rules.specs.TypedParts.{typed_program}
+use Rattle.typed_tree.specs.TypingRules.TypedParts.{typed_program}
 use Rattle.text_reports.specs.ReportTexts.{Answer, syntax_answer}
 use Rattle.text_reports.specs.ReportCases.{IsSafeText}
 use Rattle.text_reports.specs.Answers.{answer_of}

@@ -1,6 +1,6 @@
 use Rattle.std.proofs.Common.{◌∙◌, sym, subst, IfOk}
 use Rattle.std.proofs.lemmas.Result.{IfOk-weaker}
-use Rattle.typing_rules.specs.TypedParts.{typed_program}
+use Rattle.typed_tree.specs.TypingRules.TypedParts.{typed_program}
 use Rattle.text_reports.specs.Answers.{answer_of}
 use Rattle.explain_top.specs.Report.{Kind, Explains}
 use Rattle.explain_top.proofs.ExplainLaws.{failure_kind}

@@ -1,6 +1,6 @@
 use Rattle.std.proofs.Common.{◌∙◌, ap, refl}
 use Rattle.boogie_tree.specs.View as tree
-use Rattle.trace_story.specs.TraceText.{plain}
+use Rattle.explain_top.specs.TraceStory.TraceText.{plain}
 use Rattle.text_reports.specs.ReportTexts.{syntax_answer}
 use Rattle.explain_top.specs.Report.{IsTraceText, no_trace, no_letter, no_run, of_trace}
 use Rattle.explain_top.proofs.explaining.explained_trace.Goals as goal

@@ -1,4 +1,4 @@
-use Rattle.typing_rules.specs.TypedParts.{typed_program}
+use Rattle.typed_tree.specs.TypingRules.TypedParts.{typed_program}
 use Rattle.text_reports.specs.Answers.{answer_of, HasNoErrorWord}
 use Rattle.text_reports.proofs.TextLaws.{second_refused, second_answered}
 use Rattle.explain_top.specs.Report.{kind_of, Explains}

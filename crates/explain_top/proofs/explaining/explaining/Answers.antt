@@ -1,5 +1,5 @@
 use Rattle.std.proofs.lemmas.Result.{IfOk-weaker}
-use Rattle.typing_rules.specs.TypedParts.{typed_program}
+use Rattle.typed_tree.specs.TypingRules.TypedParts.{typed_program}
 use Rattle.text_reports.specs.ReportCases.{IsTypedText, RefusesTyped, RefusesLowering}
 use Rattle.text_reports.specs.Answers.{answer_of, IsGraphOf, HasNoErrorWord, TextIsSafe}
 use Rattle.text_reports.proofs.RefusalLaws.{typed_is_not_zero, lowering_is_not_zero}

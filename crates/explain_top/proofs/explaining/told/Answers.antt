@@ -1,7 +1,7 @@
 use Rattle.std.proofs.Common.{ℕ, List, map, ap, ◌∙◌}
 use Rattle.boogie_tree.specs.View as tree
 use Rattle.boogie_tree.specs.Printing.{program_text}
-use Rattle.typing_rules.specs.TypedParts.{typed_program}
+use Rattle.typed_tree.specs.TypingRules.TypedParts.{typed_program}
 use Rattle.proof_names.specs.declared.outlines.NamedNode.{NamedNode}
 use Rattle.proof_names.specs.Outlines.{node}
 use Rattle.explained_proof.specs.Known.{known_of}

@@ -1,6 +1,6 @@
 use Rattle.std.proofs.Common.{map, sym}
 use Rattle.std.specs.String.{string_bytes}
-use Rattle.explain_top.specs.Views.{Asks}
+use Rattle.explain_top.specs.Ties.Views.{Asks}
 use Rattle.explain_top.proofs.reporting.reported.Goals as goal
 
 pub returns-clause-safe : goal.returns-clause-safe

@@ -1,4 +1,4 @@
-use Rattle.explain_top.specs.Views.{asked}
+use Rattle.explain_top.specs.Ties.Views.{asked}
 use Rattle.explain_top.proofs.RunLaws.{past_limit, text_explained, text_says, told_so, told_safe, told_failing, told_leading}
 use Rattle.explain_top.proofs.reporting.reported_on_texts.Goals as goal
 

@@ -2,7 +2,7 @@ use Rattle.std.proofs.Common.{◌≡◌, ◌++◌, ◌∙◌, Some, List, ℕ, m
 use Rattle.std.specs.Prelude.{IfSome}
 use Rattle.std.specs.String.{string_bytes}
 use Rattle.outer_io.specs.Texts.{GainsFront}
-use Rattle.explain_top.specs.Views.{answered}
+use Rattle.explain_top.specs.Ties.Views.{answered}
 use Rattle.explain_top.proofs.RunLaws.{answer_given, took_front}
 use Rattle.explain_top.proofs.running.run.Goals as goal
 

@@ -1,7 +1,7 @@
 use Rattle.std.proofs.Common.{◌≡◌, ◌∙◌, codes, true, refl, ap₂}
 use Rattle.std.proofs.lemmas.Result.{IfOk-weaker}
 use Rattle.clap.specs.Simple.{App, with_rule}
-use Rattle.command_words.specs.Rules.{positional, option, flag, bare_command}
+use Rattle.text_reports.specs.CommandWords.Rules.{positional, option, flag, bare_command}
 use Rattle.explain_top.specs.CommandLine.{command}
 use Rattle.explain_top.proofs.words.command.Goals as goal
 

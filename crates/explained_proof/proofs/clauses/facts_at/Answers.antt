@@ -1,7 +1,7 @@
-use Rattle.fact_expressions.specs.Facts.{facts_from}
-use Rattle.fact_expressions.specs.Views as facts
+use Rattle.explained_proof.specs.FactExpressions.Facts.{facts_from}
+use Rattle.explained_proof.specs.FactExpressions.Views as facts
 use Rattle.std.proofs.Common.{map}
-use Rattle.explained_proof.specs.Views as view
+use Rattle.explained_proof.specs.Ties.Views as view
 use Rattle.explained_proof.proofs.KnowledgeLaws.{facts_on, facts_end}
 use Rattle.explained_proof.proofs.clauses.facts_at.Goals as goal
 

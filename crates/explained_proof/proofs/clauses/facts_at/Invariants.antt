@@ -1,8 +1,8 @@
 use Rattle.std.proofs.Common.{◌≡◌, map, drop}
-use Rattle.fact_expressions.specs.Facts.{facts_from}
-use Rattle.fact_expressions.specs.Views as facts
+use Rattle.explained_proof.specs.FactExpressions.Facts.{facts_from}
+use Rattle.explained_proof.specs.FactExpressions.Views as facts
 use Rattle.explained_proof.specs.Known.{known_at}
-use Rattle.explained_proof.specs.Views as view
+use Rattle.explained_proof.specs.Ties.Views as view
 use Rattle.explained_proof.proofs.clauses.facts_at.Given as goal
 
 abbrev pub invariant-loop-number : goal.invariant-loop-number

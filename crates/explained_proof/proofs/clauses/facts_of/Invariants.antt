@@ -1,7 +1,7 @@
 use Rattle.std.proofs.Common.{◌≡◌, map, take}
-use Rattle.fact_expressions.specs.Views as facts
+use Rattle.explained_proof.specs.FactExpressions.Views as facts
 use Rattle.explained_proof.specs.Known.{known_at}
-use Rattle.explained_proof.specs.Views as view
+use Rattle.explained_proof.specs.Ties.Views as view
 use Rattle.explained_proof.proofs.clauses.facts_of.Given as goal
 
 abbrev pub invariant-loop-node : goal.invariant-loop-node

@@ -1,8 +1,8 @@
 use Rattle.std.proofs.Common.{◌∙◌, ℕ, ℤ, Bool, pos, sym, ap}
 use Rattle.std.specs.List.{list_any}
 use Rattle.std.proofs.lemmas.List.Folds.{list_any_at}
-use Rattle.row_expressions.specs.Scopes.{may_change}
-use Rattle.row_expressions.specs.Views as scopes
+use Rattle.explained_proof.specs.RowExpressions.Scopes.{may_change}
+use Rattle.explained_proof.specs.RowExpressions.Views as scopes
 use Rattle.explained_proof.proofs.clauses.row_names_changing.Goals as goal
 
 pub returns-then-may_change : goal.returns-then-may_change

@@ -1,7 +1,7 @@
 use Rattle.std.proofs.Common.{◌≡◌, false, take}
 use Rattle.std.specs.List.{list_any}
-use Rattle.row_expressions.specs.Scopes.{may_change}
-use Rattle.row_expressions.specs.Views as scopes
+use Rattle.explained_proof.specs.RowExpressions.Scopes.{may_change}
+use Rattle.explained_proof.specs.RowExpressions.Views as scopes
 use Rattle.explained_proof.proofs.clauses.row_names_changing.Given as goal
 
 abbrev pub invariant-loop-column : goal.invariant-loop-column

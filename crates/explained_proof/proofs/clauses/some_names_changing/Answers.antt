@@ -1,8 +1,8 @@
 use Rattle.std.proofs.Common.{◌∙◌, Bool, sym, ap}
 use Rattle.std.specs.Borrow.{Bor}
 use Rattle.lin_rows.specs.Rows.{LinearRow}
-use Rattle.row_expressions.proofs.LoopLaws.{any_here}
-use Rattle.row_expressions.specs.Views as scopes
+use Rattle.explained_proof.proofs.RowExpressions.LoopLaws.{any_here}
+use Rattle.explained_proof.specs.RowExpressions.Views as scopes
 use Rattle.explained_proof.specs.Clauses as spec
 use Rattle.explained_proof.proofs.clauses.some_names_changing.Goals as goal
 

@@ -1,7 +1,7 @@
 use Rattle.std.proofs.Common.{◌≡◌, false, take}
 use Rattle.std.specs.List.{list_any}
-use Rattle.row_expressions.specs.Views as scopes
-use Rattle.fact_expressions.specs.Views as facts
+use Rattle.explained_proof.specs.RowExpressions.Views as scopes
+use Rattle.explained_proof.specs.FactExpressions.Views as facts
 use Rattle.explained_proof.specs.Clauses as spec
 use Rattle.explained_proof.proofs.clauses.some_names_changing.Given as goal
 

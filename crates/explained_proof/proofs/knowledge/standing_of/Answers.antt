@@ -5,7 +5,7 @@ use Rattle.std.proofs.lemmas.List.{append-nil}
 use Rattle.nwa_base.specs.Groups.{grouped}
 use Rattle.proof_names.specs.Outlines.{node}
 use Rattle.explained_proof.specs.Known as spec
-use Rattle.explained_proof.specs.Views as view
+use Rattle.explained_proof.specs.Ties.Views as view
 use Rattle.explained_proof.proofs.KnowledgeLaws.{nodes_on, nodes_end, and_not_true, and_not_false}
 use Rattle.explained_proof.proofs.knowledge.standing_of.Goals as goal
 

@@ -3,7 +3,7 @@ use Rattle.std.specs.HashMap.{get}
 use Rattle.nwa_base.specs.Groups.{grouped}
 use Rattle.proof_names.specs.Outlines.{node}
 use Rattle.explained_proof.specs.Known as spec
-use Rattle.explained_proof.specs.Views as view
+use Rattle.explained_proof.specs.Ties.Views as view
 use Rattle.explained_proof.proofs.knowledge.standing_of.Given as goal
 
 abbrev pub invariant-loop-number : goal.invariant-loop-number

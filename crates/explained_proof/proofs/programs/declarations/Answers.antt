@@ -2,7 +2,7 @@ use Rattle.std.proofs.Common.{◌≡◌, [], rules}
 use Rattle.std.proofs.lemmas.List.{nil_from_length}
 use Rattle.boogie_tree.specs.View as tree
 use Rattle.explained_proof.specs.Explained as spec
-use Rattle.explained_proof.specs.Views as view
+use Rattle.explained_proof.specs.Ties.Views as view
 use Rattle.explained_proof.proofs.TakenLaws.{taken_on, taken_all}
 use Rattle.explained_proof.proofs.programs.declarations.Goals as goal
 

@@ -1,6 +1,6 @@
 use Rattle.std.proofs.Common.{◌∙◌, ap}
 use Rattle.boogie_tree.specs.View as tree
-use Rattle.typing_rules.specs.TypedParts.{typed_program}
+use Rattle.typed_tree.specs.TypingRules.TypedParts.{typed_program}
 use Rattle.explained_proof.specs.Explained as spec
 use Rattle.explained_proof.specs.Known.{Known}
 use Rattle.explained_proof.proofs.programs.explained.Goals as goal

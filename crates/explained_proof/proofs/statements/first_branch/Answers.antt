@@ -2,7 +2,7 @@ use Rattle.std.proofs.Common.{◌≡◌, ◌∙◌, ◌∷◌, [], List, map, ru
 use Rattle.std.proofs.lemmas.List.{nil_from_length}
 use Rattle.typed_tree.specs.declared.types.TStmt.{TStmt}
 use Rattle.typed_tree.specs.TypedView as typed
-use Rattle.explained_proof.specs.Fitting.{HasPlaces, StatementFits}
+use Rattle.explained_proof.specs.Ties.Fitting.{HasPlaces, StatementFits}
 use Rattle.explained_proof.specs.Statements as spec
 use Rattle.explained_proof.proofs.StatementLaws.{there_fits, first_fits, then_fits, nothing_there, first_there}
 use Rattle.explained_proof.proofs.statements.first_branch.Goals as goal

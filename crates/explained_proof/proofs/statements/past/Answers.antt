@@ -1,6 +1,6 @@
 use Rattle.std.proofs.Common.{◌≡◌, ◌∙◌, ◌∷◌, map, rules, arith}
 use Rattle.typed_tree.specs.TypedView as typed
-use Rattle.explained_proof.specs.Fitting.{StatementFits}
+use Rattle.explained_proof.specs.Ties.Fitting.{StatementFits}
 use Rattle.explained_proof.proofs.StatementLaws.{there_fits, first_fits, behind_fits, past_there}
 use Rattle.explained_proof.proofs.statements.past.Goals as goal
 use Rattle.explained_proof.proofs.statements.past.Goals.{In-Some}

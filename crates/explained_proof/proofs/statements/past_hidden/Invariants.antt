@@ -1,8 +1,8 @@
 use Rattle.std.proofs.Common.{◌≡◌, map, length}
 use Rattle.typed_tree.specs.TypedView as typed
-use Rattle.explained_proof.specs.Fitting.{HasPlaces}
+use Rattle.explained_proof.specs.Ties.Fitting.{HasPlaces}
 use Rattle.explained_proof.specs.Statements as spec
-use Rattle.explained_proof.specs.Views as view
+use Rattle.explained_proof.specs.Ties.Views as view
 use Rattle.explained_proof.proofs.statements.past_hidden.Given as goal
 
 abbrev pub invariant-loop-first : goal.invariant-loop-first

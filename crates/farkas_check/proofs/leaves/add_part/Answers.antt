@@ -1,7 +1,7 @@
 use Rattle.std.proofs.Common.{FitsSigned, refl}
 use Rattle.std.specs.Int.{w128}
 use Rattle.std.proofs.lemmas.Int.{to_z-of_z}
-use Rattle.farkas_check.specs.Leaves.{MayFollow}
+use Rattle.farkas_check.specs.Ties.Leaves.{MayFollow}
 use Rattle.farkas_check.proofs.LeafSteps.{AddsPart-read, CanAdd_not}
 use Rattle.farkas_check.proofs.leaves.add_part.Goals as goal
 use Rattle.farkas_check.proofs.leaves.add_part.Goals.{After-index-rows-place}

@@ -2,7 +2,7 @@ use Rattle.std.proofs.Common.{◌≡◌, [], map, ◌∙◌}
 use Rattle.fm_elim.specs.Answers.{aside_of}
 use Rattle.fm_elim.specs.Values.{ValueFits}
 use Rattle.fm_elim.specs.Elimination.{point}
-use Rattle.fm_elim.specs.Climb.{climb, ClimbFits}
+use Rattle.fm_elim.specs.Ties.Climb.{climb, ClimbFits}
 use Rattle.fm_elim.proofs.Exits.{exit_part, exit_memory}
 use Rattle.fm_elim.proofs.WayBack.{loop_sets, loop_fits, loop_more, values_more, length_more, up_start}
 use Rattle.std.proofs.lemmas.List.{length-map}

@@ -2,7 +2,7 @@ use Rattle.std.proofs.Common.{◌≡◌, length, map}
 use Rattle.std.specs.List.{AllByRecursion}
 use Rattle.frac.specs.Fractions.{IsFraction}
 use Rattle.fm_elim.specs.Answers.{aside_of}
-use Rattle.fm_elim.specs.Climb.{IsUp}
+use Rattle.fm_elim.specs.Ties.Climb.{IsUp}
 use Rattle.fm_elim.proofs.ascent.go_up.Given as goal
 
 abbrev pub invariant-loop-aside : goal.invariant-loop-aside

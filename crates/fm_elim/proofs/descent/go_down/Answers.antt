@@ -3,7 +3,7 @@ use Rattle.std.proofs.lemmas.List.{map-append}
 use Rattle.fm_elim.specs.Answers.{aside_of, eliminated_of}
 use Rattle.fm_elim.specs.Columns.{SetAside, EliminationStepFits}
 use Rattle.fm_elim.specs.Elimination.{SolveFits}
-use Rattle.fm_elim.specs.Climb.{IsDown, IsBottom, bottom_of}
+use Rattle.fm_elim.specs.Ties.Climb.{IsDown, IsBottom, bottom_of}
 use Rattle.fm_elim.proofs.Climbing.{down_more, down_end, down_past}
 use Rattle.fm_elim.proofs.Exits.{exit_step}
 use Rattle.fm_elim.proofs.FreeColumns.{down_set}

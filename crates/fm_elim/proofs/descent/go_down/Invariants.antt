@@ -1,6 +1,6 @@
 use Rattle.std.proofs.Common.{map}
 use Rattle.fm_elim.specs.Answers.{aside_of}
-use Rattle.fm_elim.specs.Climb.{IsDown}
+use Rattle.fm_elim.specs.Ties.Climb.{IsDown}
 use Rattle.fm_elim.proofs.descent.go_down.Given as goal
 
 abbrev pub invariant-columns : goal.invariant-columns

@@ -2,7 +2,7 @@ use Rattle.std.proofs.Common.{ℕ, ℤ, Option, map, subst}
 use Rattle.std.specs.declared.vec.Vec.{Vec}
 use Rattle.std.specs.declared.alloc.Global.{Global}
 use Rattle.fm_elim.specs.Answers.{aside_of}
-use Rattle.fm_elim.specs.Climb.{IsBottom, bottom_of}
+use Rattle.fm_elim.specs.Ties.Climb.{IsBottom, bottom_of}
 use Rattle.fm_elim.proofs.Outcomes.{refuted_found}
 use Rattle.fm_elim.proofs.solving.solve.Goals as goal
 

@@ -2,7 +2,7 @@ use Rattle.std.proofs.Common.{rules, ◌≡◌, ◌∙◌, ℤ, pos, to_z, FitsS
 use Rattle.std.specs.Prelude.{unsigned_abs}
 use Rattle.std.specs.Int.{w128, IsGcd}
 use Rattle.std.proofs.lemmas.Int.{to_z-of_z}
-use Rattle.frac.specs.Reduced.{Reduces}
+use Rattle.frac.specs.Ties.Reduced.{Reduces}
 use Rattle.frac.proofs.Reducing.{reduced_by_one}
 use Rattle.frac.proofs.numbers.reduce.Goals as goal
 use Rattle.frac.proofs.numbers.reduce.Goals.{After-common_divisor-divisor}

@@ -3,7 +3,7 @@ use Rattle.std.specs.Int.{w128}
 use Rattle.std.proofs.lemmas.Int.{to_z-of_z}
 use Rattle.math_facts.specs.Fits.{Fits}
 use Rattle.frac.specs.Fractions.{Fraction, IsFraction, IsRatio, IsTooLarge}
-use Rattle.frac.specs.Reduced.{Reduces}
+use Rattle.frac.specs.Ties.Reduced.{Reduces}
 use Rattle.frac.proofs.ProductLaws.{left_over, product_ratio, product_is_fraction, product_too_large}
 use Rattle.frac.proofs.Exits.{on_err}
 use Rattle.frac.proofs.products.mul.Goals as goal

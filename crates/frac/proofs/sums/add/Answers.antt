@@ -4,7 +4,7 @@ use Rattle.std.specs.Int.{w128}
 use Rattle.std.proofs.lemmas.Int.{to_z-of_z}
 use Rattle.std.proofs.lemmas.Nat.Gcd.{dvd_trans}
 use Rattle.math_facts.specs.Fits.{Fits}
-use Rattle.frac.specs.Reduced.{Reduces}
+use Rattle.frac.specs.Ties.Reduced.{Reduces}
 use Rattle.frac.proofs.Sharing.{first_divides}
 use Rattle.frac.proofs.SumLaws.{cross_total, sum_is_fraction, sum_ratio}
 use Rattle.frac.proofs.FormulaLaws.{comparison_parts, sum_fits, sum_total_fits, sum_denominator_fits}

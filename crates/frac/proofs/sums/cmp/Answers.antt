@@ -3,7 +3,7 @@ use Rattle.std.specs.Int.{w128}
 use Rattle.std.proofs.lemmas.Cmp.{int_ranked}
 use Rattle.std.proofs.lemmas.Int.{to_z-of_z}
 use Rattle.math_facts.specs.Fits.{Fits}
-use Rattle.frac.specs.Reduced.{Reduces}
+use Rattle.frac.specs.Ties.Reduced.{Reduces}
 use Rattle.frac.proofs.FormulaLaws.{comparison_fits, comparison_parts, comparison_order}
 use Rattle.frac.proofs.Exits.{on_err}
 use Rattle.frac.proofs.sums.cmp.Goals as goal

@@ -1,6 +1,6 @@
 use Rattle.std.proofs.Common.{◌≡◌, ◌++◌}
-use Rattle.typing_rules.specs.TypedParts.{typed_program}
-use Rattle.icfg_lower.specs.Owners.{site_owners_from}
+use Rattle.typed_tree.specs.TypingRules.TypedParts.{typed_program}
+use Rattle.icfg_lower.specs.Ties.Owners.{site_owners_from}
 use Rattle.icfg_lower.proofs.building.add_all_sites.Given as goal
 
 abbrev pub invariant-loop-proc : goal.invariant-loop-proc

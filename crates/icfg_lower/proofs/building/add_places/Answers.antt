@@ -1,5 +1,5 @@
 use Rattle.std.proofs.Common.{◌∙◌, sym}
-use Rattle.typing_rules.specs.TypedParts.{typed_program}
+use Rattle.typed_tree.specs.TypingRules.TypedParts.{typed_program}
 use Rattle.icfg_lower.proofs.PlaceOwners.{places_added, on_ok}
 use Rattle.icfg_lower.proofs.building.add_places.Goals as goal
 

@@ -1,5 +1,5 @@
 use Rattle.std.proofs.Common.{◌≡◌, ◌++◌, map}
-use Rattle.typing_rules.specs.TypedParts.{typed_program}
+use Rattle.typed_tree.specs.TypingRules.TypedParts.{typed_program}
 use Rattle.lowered_graph.specs.Lowered.{entry_of}
 use Rattle.icfg_lower.proofs.BodyEnds.{from_number}
 use Rattle.icfg_lower.proofs.building.entries_of.Given as goal

@@ -1,5 +1,5 @@
 use Rattle.std.proofs.Common.{◌∙◌, arith}
-use Rattle.typing_rules.specs.TypedParts.{typed_program}
+use Rattle.typed_tree.specs.TypingRules.TypedParts.{typed_program}
 use Rattle.icfg_lower.proofs.BodyEnds.{one_exit_more}
 use Rattle.icfg_lower.proofs.building.exits_of.Goals as goal
 

@@ -1,14 +1,14 @@
 use Rattle.std.proofs.Common.{◌≡◌, ◌∙◌, map, sym, ap, subst}
 use Rattle.typed_tree.specs.TypedTree.{TypedProgram}
-use Rattle.typing_rules.specs.TypedParts.{typed_program}
+use Rattle.typed_tree.specs.TypingRules.TypedParts.{typed_program}
 use Rattle.nwa_base.specs.Automata.{IsAutomaton}
 use Rattle.letter_acts.specs.Acts.{plain_acts, marks_of, plain_frames}
 use Rattle.letter_acts.specs.Invariant.{Graph, IsGraph, alphabet_of}
 use Rattle.letter_acts.specs.Parts as parts
 use Rattle.letter_acts.specs.Widths.{ActsFit}
-use Rattle.letter_table.specs.Letters.{Lettered}
+use Rattle.letter_acts.specs.LetterTable.Letters.{Lettered}
 use Rattle.lowered_graph.specs.Lowered.{lowered}
-use Rattle.icfg_lower.specs.Built.{plain_lettered}
+use Rattle.icfg_lower.specs.Ties.Built.{plain_lettered}
 use Rattle.icfg_lower.proofs.AutomatonParts.{automaton_is, graph_is, acts_apart, marks_apart, if_ok_so}
 use Rattle.icfg_lower.proofs.building.graph.Goals as goal
 

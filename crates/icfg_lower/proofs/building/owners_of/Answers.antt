@@ -1,6 +1,6 @@
 use Rattle.std.proofs.Common.{◌≡◌, ◌∙◌, ◌+◌, ◌++◌, ℕ, List, replicate, sym, ap}
-use Rattle.typing_rules.specs.TypedParts.{TypedParts, typed_program}
-use Rattle.icfg_lower.specs.Owners.{owners_from, site_owners_from}
+use Rattle.typed_tree.specs.TypingRules.TypedParts.{TypedParts, typed_program}
+use Rattle.icfg_lower.specs.Ties.Owners.{owners_from, site_owners_from}
 use Rattle.icfg_lower.proofs.PlaceOwners.{owners_are}
 use Rattle.icfg_lower.proofs.building.owners_of.Goals as goal
 

@@ -1,4 +1,4 @@
-use Rattle.typing_rules.specs.TypedParts.{typed_program}
+use Rattle.typed_tree.specs.TypingRules.TypedParts.{typed_program}
 use Rattle.icfg_lower.proofs.programs.is_graph.Goals as goal
 
 pub returns-clause-automaton : goal.returns-clause-automaton

@@ -1,5 +1,5 @@
 use Rattle.std.proofs.Common.{◌≡◌, ◌∙◌, ap, sym, subst}
-use Rattle.typing_rules.specs.TypedParts.{TypedParts, typed_program}
+use Rattle.typed_tree.specs.TypingRules.TypedParts.{TypedParts, typed_program}
 use Rattle.letter_acts.specs.Invariant.{Graph, IsGraph, alphabet_of}
 use Rattle.letter_acts.specs.Widths.{ActsFit}
 use Rattle.lowered_graph.specs.Laws.{IsFaithful}

@@ -5,7 +5,7 @@ use Rattle.farkas_check.specs.Nodes.{PlainNode, plain_nodes}
 use Rattle.farkas_check.specs.Refutes.{Refutes}
 use Rattle.farkas_check.specs.Trees.{IsPrefixList}
 use Rattle.int_decide.specs.Answers.{RefutesWithin}
-use Rattle.int_decide.specs.CutCounts.{have_few_cuts}
+use Rattle.int_decide.specs.Ties.CutCounts.{have_few_cuts}
 use Rattle.int_decide.proofs.CutLaws.{refutes_within, counted_within}
 use Rattle.int_decide.proofs.accepting.accepted.Goals as goal
 

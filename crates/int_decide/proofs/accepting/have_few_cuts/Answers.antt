@@ -1,6 +1,6 @@
 use Rattle.std.proofs.Common.{◌≡◌, ◌<◌, ◌∙◌, sym, None, Some, reverse, get_or, length, [], ◌∷◌, ◌++◌, List, ℕ, ap}
 use Rattle.farkas_check.specs.Nodes.{plain, plain_nodes}
-use Rattle.int_decide.specs.CutCounts.{after_node, have_few_cuts}
+use Rattle.int_decide.specs.Ties.CutCounts.{after_node, have_few_cuts}
 use Rattle.int_decide.proofs.CutLaws.{few_stop, few_go}
 use Rattle.int_decide.proofs.accepting.have_few_cuts.Goals as goal
 

@@ -1,6 +1,6 @@
 use Rattle.std.proofs.Common.{◌≡◌, [], ◌∷◌, drop, reverse}
 use Rattle.farkas_check.specs.Nodes.{plain_nodes}
-use Rattle.int_decide.specs.CutCounts.{have_few_cuts}
+use Rattle.int_decide.specs.Ties.CutCounts.{have_few_cuts}
 use Rattle.int_decide.proofs.accepting.have_few_cuts.Given as goal
 
 abbrev pub invariant-loop-node : goal.invariant-loop-node

@@ -1,7 +1,7 @@
 use Rattle.std.proofs.Common.{sym, subst, ◌<◌, ◌+◌, ◌^◌, arith}
 use Rattle.farkas_check.specs.Walks.{goal_at_hand}
-use Rattle.int_decide.specs.Searching.{Standing, Takes, goal_extent}
-use Rattle.int_decide.specs.Alike.{ComesTo}
+use Rattle.int_decide.specs.Ties.Searching.{Standing, Takes, goal_extent}
+use Rattle.int_decide.specs.Ties.Alike.{ComesTo}
 use Rattle.int_decide.proofs.Alikes.{comes_start, taken_is_tight, comes_further, comes_met, taken_is_ready}
 use Rattle.int_decide.proofs.deciding.picked.Goals as goal
 

@@ -1,5 +1,5 @@
-use Rattle.int_decide.specs.Searching.{IsPaired, standing_of}
-use Rattle.int_decide.specs.Alike.{ComesTo}
+use Rattle.int_decide.specs.Ties.Searching.{IsPaired, standing_of}
+use Rattle.int_decide.specs.Ties.Alike.{ComesTo}
 use Rattle.int_decide.proofs.deciding.picked.Given as goal
 
 abbrev pub invariant-loop-goal : goal.invariant-loop-goal

@@ -1,6 +1,6 @@
 use Rattle.std.proofs.Common.{sym, subst}
 use Rattle.fm_elim.proofs.Exits.{exit_part}
-use Rattle.int_decide.specs.Searching.{Task, Standing, HasCome, StepFits, EliminationsFit, Ends}
+use Rattle.int_decide.specs.Ties.Searching.{Task, Standing, HasCome, StepFits, EliminationsFit, Ends}
 use Rattle.farkas_check.specs.Walks.{goal_at_hand}
 use Rattle.int_decide.proofs.Coming.{come_start, taken_fits, come_further, steps_fewer, come_met, ends_closed}
 use Rattle.int_decide.proofs.deciding.searched.Goals as goal

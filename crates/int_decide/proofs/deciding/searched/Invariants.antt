@@ -1,4 +1,4 @@
-use Rattle.int_decide.specs.Searching.{HasCome, IsPaired, standing_of, steps_left}
+use Rattle.int_decide.specs.Ties.Searching.{HasCome, IsPaired, standing_of, steps_left}
 use Rattle.int_decide.proofs.deciding.searched.Given as goal
 
 abbrev pub invariant-loop-search : goal.invariant-loop-search

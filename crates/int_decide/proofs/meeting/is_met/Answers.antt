@@ -3,7 +3,7 @@ use Rattle.std.specs.Prelude.{IsTrue}
 use Rattle.std.specs.List.{AllByRecursion}
 use Rattle.lin_rows.specs.Points.{point_of}
 use Rattle.fm_elim.specs.Worth.{HoldsAt}
-use Rattle.int_decide.specs.Picking.{AreOver}
+use Rattle.int_decide.specs.Ties.Picking.{AreOver}
 use Rattle.int_decide.proofs.Numerators.{over_point}
 use Rattle.int_decide.proofs.meeting.is_met.Goals as goal
 

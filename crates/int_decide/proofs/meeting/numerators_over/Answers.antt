@@ -1,7 +1,7 @@
 use Rattle.std.proofs.Common.{FitsSigned, ◌≡◌, [], ◌∷◌, ◌++◌, take, rules}
 use Rattle.std.specs.Int.{w128}
 use Rattle.std.proofs.lemmas.Int.{to_z-of_z}
-use Rattle.int_decide.specs.Picking.{IsOver, AreOver}
+use Rattle.int_decide.specs.Ties.Picking.{IsOver, AreOver}
 use Rattle.int_decide.proofs.Numerators.{over_next, over_all}
 use Rattle.int_decide.proofs.meeting.numerators_over.Goals as goal
 

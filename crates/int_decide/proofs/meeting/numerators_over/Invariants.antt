@@ -1,5 +1,5 @@
 use Rattle.std.proofs.Common.{take}
-use Rattle.int_decide.specs.Picking.{AreOver}
+use Rattle.int_decide.specs.Ties.Picking.{AreOver}
 use Rattle.int_decide.proofs.meeting.numerators_over.Given as goal
 
 abbrev pub invariant-loop-value : goal.invariant-loop-value

@@ -2,7 +2,7 @@ use Rattle.std.proofs.Common.{FitsSigned, of_z, ap, ◌∙◌, rules, ℕ, suc, 
 use Rattle.std.specs.Prelude.{IfOk, IsTrue}
 use Rattle.std.specs.Int.{w128}
 use Rattle.std.proofs.lemmas.Int.{to_z-of_z}
-use Rattle.int_decide.specs.Picking.{IsApart, ArePicked}
+use Rattle.int_decide.specs.Ties.Picking.{IsApart, ArePicked}
 use Rattle.int_decide.proofs.PickedValues.{apart_ends}
 use Rattle.int_decide.proofs.ShownValues.{nearest_goes}
 use Rattle.int_decide.proofs.picking.are_picked.Goals as goal

@@ -1,5 +1,5 @@
 use Rattle.std.proofs.Common.{length}
-use Rattle.int_decide.specs.Picking.{ArePicked}
+use Rattle.int_decide.specs.Ties.Picking.{ArePicked}
 use Rattle.int_decide.proofs.picking.are_picked.Given as goal
 
 abbrev pub invariant-loop-left : goal.invariant-loop-left

@@ -2,7 +2,7 @@ use Rattle.std.proofs.Common.{rules, subst}
 use Rattle.std.specs.List.{AllByRecursion}
 use Rattle.lin_rows.specs.Rows.{IsRow}
 use Rattle.fm_elim.specs.Slices.{IsPoint}
-use Rattle.int_decide.specs.Picking.{ArePicked}
+use Rattle.int_decide.specs.Ties.Picking.{ArePicked}
 use Rattle.int_decide.proofs.PickedValues.{point_stands}
 use Rattle.int_decide.proofs.picking.point_outcome.Goals as goal
 

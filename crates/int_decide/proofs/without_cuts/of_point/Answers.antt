@@ -3,7 +3,7 @@ use Rattle.fm_elim.specs.Slices.{IsPoint}
 use Rattle.lin_rows.specs.Points.{point_of}
 use Rattle.lin_rows.specs.Systems.{Meets}
 use Rattle.int_decide.specs.Decide.{first_broken}
-use Rattle.int_decide.specs.Searching.{cut_at}
+use Rattle.int_decide.specs.Ties.Searching.{cut_at}
 use Rattle.int_decide.proofs.RationalPoints.{solved_unrefuted, whole_point_meets, point_solves, uncut_none}
 use Rattle.int_decide.proofs.without_cuts.of_point.Goals as goal
 

@@ -3,7 +3,7 @@ use Rattle.letter_acts.specs.Invariant.{alphabet_of}
 use Rattle.triple_rows.specs.declared.triples.Triple.{Triple}
 use Rattle.triple_rows.specs.Proofs.{PlainProof}
 use Rattle.itp_automaton.specs.Settling.{NamesStates}
-use Rattle.itp_automaton.specs.Edges.{IsBuilt, AddsEdge}
+use Rattle.itp_automaton.specs.Ties.Edges.{IsBuilt, AddsEdge}
 use Rattle.itp_automaton.proofs.StateLaws.{take_next}
 use Rattle.itp_automaton.proofs.BuiltLaws.{proof_added}
 use Rattle.itp_automaton.proofs.assembling.add_edges.Goals as goal

@@ -1,5 +1,5 @@
 use Rattle.std.proofs.Common.{take}
-use Rattle.itp_automaton.specs.Edges.{IsBuilt}
+use Rattle.itp_automaton.specs.Ties.Edges.{IsBuilt}
 use Rattle.itp_automaton.proofs.assembling.add_edges.Given as goal
 
 abbrev pub invariant-loop-proof : goal.invariant-loop-proof

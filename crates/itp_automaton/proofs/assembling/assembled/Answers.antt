@@ -3,7 +3,7 @@ use Rattle.nwa_base.specs.Automata.{Automaton}
 use Rattle.letter_acts.specs.Kept.{Keeps}
 use Rattle.letter_acts.specs.Invariant.{IsGraph, alphabet_of}
 use Rattle.itp_automaton.specs.Certified.{Certificate, IsCertified}
-use Rattle.itp_automaton.specs.Edges.{IsBuilt}
+use Rattle.itp_automaton.specs.Ties.Edges.{IsBuilt}
 use Rattle.itp_automaton.proofs.BuiltLaws.{built_certified, built_named}
 use Rattle.itp_automaton.proofs.AssembledSteps.{built_over, named_over, certified_over}
 use Rattle.itp_automaton.proofs.assembling.assembled.Goals as goal

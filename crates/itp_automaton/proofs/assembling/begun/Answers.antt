@@ -1,7 +1,7 @@
 use Rattle.std.proofs.Common.{◌≡◌, ℕ, ◌<◌, List, length, ap, subst, arith}
 use Rattle.std.specs.Prelude.{Some, slice_get}
 use Rattle.triple_rows.specs.declared.triples.Scoped.{Scoped}
-use Rattle.itp_automaton.specs.Edges.{IsMarkedBelow}
+use Rattle.itp_automaton.specs.Ties.Edges.{IsMarkedBelow}
 use Rattle.itp_automaton.proofs.StateLaws.{got_at}
 use Rattle.itp_automaton.proofs.BuiltLaws.{marked_none, marked_more, marked_built}
 use Rattle.itp_automaton.proofs.assembling.begun.Goals as goal

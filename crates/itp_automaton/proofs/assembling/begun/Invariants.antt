@@ -1,4 +1,4 @@
-use Rattle.itp_automaton.specs.Edges.{IsMarkedBelow}
+use Rattle.itp_automaton.specs.Ties.Edges.{IsMarkedBelow}
 use Rattle.itp_automaton.proofs.assembling.begun.Given as goal
 
 abbrev pub invariant-loop-q : goal.invariant-loop-q

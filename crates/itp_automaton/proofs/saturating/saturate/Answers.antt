@@ -5,7 +5,7 @@ use Rattle.triple_rows.specs.declared.triples.Scoped.{Scoped}
 use Rattle.itp_automaton.specs.Certified.{Certificate, IsCertified}
 use Rattle.itp_automaton.specs.Making.{AreStates}
 use Rattle.itp_automaton.specs.Settling.{Adds, SettledBelow}
-use Rattle.itp_automaton.specs.Edges.{IsBuilt}
+use Rattle.itp_automaton.specs.Ties.Edges.{IsBuilt}
 use Rattle.itp_automaton.proofs.MakingLaws.{built_states, frame_count}
 use Rattle.itp_automaton.proofs.SaturatedLaws.{all_grounded, grounded_proofs, grounded_named, built_saturated, old_edges}
 use Rattle.itp_automaton.proofs.saturating.saturate.Goals as goal

@@ -1,6 +1,6 @@
 use Rattle.std.proofs.Common.{List, sym, subst}
 use Rattle.triple_rows.specs.declared.triples.Scoped.{Scoped}
-use Rattle.itp_automaton.specs.States.{AddsState}
+use Rattle.itp_automaton.specs.Ties.States.{AddsState}
 use Rattle.itp_automaton.proofs.StateLaws.{added, there_already}
 use Rattle.itp_automaton.proofs.states.add_state.Goals as goal
 

@@ -1,5 +1,5 @@
 use Rattle.std.proofs.Common.{◌≡◌}
-use Rattle.itp_automaton.specs.States.{truths_below}
+use Rattle.itp_automaton.specs.Ties.States.{truths_below}
 use Rattle.itp_automaton.proofs.states.truths.Given as goal
 
 abbrev pub invariant-loop-proc : goal.invariant-loop-proc

@@ -1,7 +1,7 @@
 use Rattle.std.proofs.Common.{map}
 use Rattle.typed_tree.specs.TypedView as view
-use Rattle.boogie_points.specs.Room.{PointHasRoom}
-use Rattle.boogie_points.specs.View.{point_of}
+use Rattle.boogie_run.specs.BoogiePoints.Room.{PointHasRoom}
+use Rattle.boogie_run.specs.BoogiePoints.View.{point_of}
 use Rattle.language_table.proofs.walks.show_steps.Given as goal
 
 abbrev pub invariant-loop-way : goal.invariant-loop-way

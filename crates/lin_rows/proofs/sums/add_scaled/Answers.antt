@@ -4,7 +4,7 @@ use Rattle.std.proofs.lemmas.Int.{to_z-of_z}
 use Rattle.math_facts.specs.Fits.{Fits}
 use Rattle.lin_rows.specs.Rows.{Holds, IsRow}
 use Rattle.lin_rows.specs.Sums.{sum_kind, scaled_sum}
-use Rattle.lin_rows.specs.Merging.{AreMerged}
+use Rattle.lin_rows.specs.Ties.Merging.{AreMerged}
 use Rattle.lin_rows.proofs.RowLemmas.{scaled_sum_from_parts}
 use Rattle.lin_rows.proofs.HoldsLaws.{holds-scaled_sum}
 use Rattle.lin_rows.proofs.sums.add_scaled.Goals as goal

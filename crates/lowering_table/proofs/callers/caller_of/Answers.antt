@@ -1,7 +1,7 @@
 use Rattle.std.proofs.Common.{◌∙◌}
-use Rattle.typing_rules.specs.TypedParts.{typed_program}
+use Rattle.typed_tree.specs.TypingRules.TypedParts.{typed_program}
 use Rattle.lowering_table.proofs.CallerLemmas.{of_found}
-use Rattle.place_edges.proofs.FrameConstants.{frame_constants}
+use Rattle.icfg_lower.proofs.PlaceEdges.FrameConstants.{frame_constants}
 use Rattle.lowering_table.proofs.callers.caller_of.Goals as goal
 
 pub invariant_of-result : goal.invariant_of-result

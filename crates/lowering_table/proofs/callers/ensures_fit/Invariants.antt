@@ -3,7 +3,7 @@ use Rattle.std.specs.List.{AllByRecursion}
 use Rattle.typed_tree.specs.TypedView.{specification}
 use Rattle.typed_tree.specs.AffineForm.{forms_fit}
 use Rattle.typed_tree.specs.Scope.{is_constant_column}
-use Rattle.call_jumps.specs.CallLists.{ensured}
+use Rattle.icfg_lower.specs.CallJumps.CallLists.{ensured}
 use Rattle.lowering_table.proofs.callers.ensures_fit.Given as goal
 
 abbrev pub invariant-loop-spec : goal.invariant-loop-spec

@@ -1,5 +1,5 @@
 use Rattle.std.proofs.Common.{◌≡◌, ◌∙◌, sym, subst}
-use Rattle.typing_rules.specs.TypedParts.{typed_program}
+use Rattle.typed_tree.specs.TypingRules.TypedParts.{typed_program}
 use Rattle.modular_cut.specs.FreeConditions.{free_spans, IsFirstFree}
 use Rattle.modular_cut.proofs.Earliest.{first_free_is, none_free_is}
 use Rattle.modular_cut.proofs.cutting.cut.Goals as goal

@@ -1,7 +1,7 @@
 use Rattle.std.proofs.Common.{◌∙◌, ◌++◌, List, length, map, slice_get, ap}
 use Rattle.typed_tree.specs.declared.types.TProc.{TProc}
 use Rattle.typed_tree.specs.TypedView as view
-use Rattle.typing_rules.specs.TypedParts.{typed_program}
+use Rattle.typed_tree.specs.TypingRules.TypedParts.{typed_program}
 use Rattle.modular_cut.specs.Parts as spec
 use Rattle.modular_cut.proofs.CutParts.{part_typed}
 use Rattle.modular_cut.proofs.MadeParts.{part_made}

@@ -2,7 +2,7 @@ use Rattle.std.proofs.Common.{◌≡◌, ◌<◌, ◌≤◌, length, map, arith}
 use Rattle.std.proofs.lemmas.List.{length-map}
 use Rattle.typed_tree.specs.TypedTree.{TypedProgram}
 use Rattle.typed_tree.specs.TypedView as view
-use Rattle.typing_rules.specs.TypedParts.{typed_program}
+use Rattle.typed_tree.specs.TypingRules.TypedParts.{typed_program}
 use Rattle.modular_cut.specs.View.{plain_part}
 use Rattle.modular_cut.proofs.CutParts.{parts_more, parts_end}
 use Rattle.modular_cut.proofs.SafeParts.{safe_by_parts}

@@ -1,6 +1,6 @@
 use Rattle.std.proofs.Common.{◌≡◌, ◌++◌, map, drop}
 use Rattle.std.specs.List.{AllByRecursion}
-use Rattle.typing_rules.specs.TypedParts.{typed_program}
+use Rattle.typed_tree.specs.TypingRules.TypedParts.{typed_program}
 use Rattle.modular_cut.specs.Parts as spec
 use Rattle.modular_cut.specs.View.{plain_part, IsValidPart}
 use Rattle.modular_cut.proofs.cutting.parts_of.Given as goal

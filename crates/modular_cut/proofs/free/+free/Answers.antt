@@ -3,8 +3,8 @@ use Rattle.std.specs.Prelude.{flat_map}
 use Rattle.boogie_tree.specs.declared.span.Span.{Span}
 use Rattle.typed_tree.specs.TypedTree.{TypedStatement}
 use Rattle.typed_tree.specs.TypedView as view
-use Rattle.typing_rules.proofs.StatementParts.{if_seen, while_seen}
-use Rattle.modular_cut.specs.Earliest.{earliest}
+use Rattle.typed_tree.proofs.TypingRules.StatementParts.{if_seen, while_seen}
+use Rattle.modular_cut.specs.Ties.Earliest.{earliest}
 use Rattle.modular_cut.specs.FreeConditions.{free_condition, free_statement, free_block}
 use Rattle.modular_cut.proofs.First.{earliest_append, found_more, found_end}
 use Rattle.modular_cut.proofs.free.+free.Goals as goal

@@ -1,6 +1,6 @@
 use Rattle.std.proofs.Common.{◌≡◌, drop}
 use Rattle.typed_tree.specs.TypedView as view
-use Rattle.modular_cut.specs.Earliest.{earliest}
+use Rattle.modular_cut.specs.Ties.Earliest.{earliest}
 use Rattle.modular_cut.specs.FreeConditions.{free_block}
 use Rattle.modular_cut.proofs.free.+free.Given as goal
 

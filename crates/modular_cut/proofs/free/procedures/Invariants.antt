@@ -1,7 +1,7 @@
 use Rattle.std.proofs.Common.{◌≡◌, map, drop}
 use Rattle.std.specs.Prelude.{flat_map}
 use Rattle.typed_tree.specs.TypedView as view
-use Rattle.modular_cut.specs.Earliest.{earliest}
+use Rattle.modular_cut.specs.Ties.Earliest.{earliest}
 use Rattle.modular_cut.specs.FreeConditions.{free_procedure}
 use Rattle.modular_cut.proofs.free.procedures.Given as goal
 

@@ -10,13 +10,13 @@ use Rattle.farkas_check.proofs.TreeLaws.{is_tree_is}
 use Rattle.triple_rows.specs.declared.predicates.PredNode.{PredNode}
 use Rattle.triple_rows.specs.declared.triples.Scoped.{Scoped}
 use Rattle.triple_rows.specs.Proofs.{PlainProof}
-use Rattle.nested_predicates.specs.Stamps.{stamps_of}
-use Rattle.nested_predicates.specs.Interpolants.{PlainInterpolants, AreInterpolants, RefutesRows, BeginsTrue, EndsFalse, triples_along}
-use Rattle.nested_refutations.specs.Numbers.{steps_of}
-use Rattle.triple_steps.specs.declared.making.Step.{Step}
-use Rattle.triple_steps.specs.Steps.{FitColumns, AreSteps}
-use Rattle.triple_steps.proofs.StepLaws.{total_is}
-use Rattle.triple_walks.proofs.TableLaws.{tree_is}
+use Rattle.nested_itp.specs.NestedPredicates.Stamps.{stamps_of}
+use Rattle.nested_itp.specs.NestedPredicates.Interpolants.{PlainInterpolants, AreInterpolants, RefutesRows, BeginsTrue, EndsFalse, triples_along}
+use Rattle.nested_itp.specs.NestedRefutations.Numbers.{steps_of}
+use Rattle.nested_itp.specs.declared.triple_steps.making.Step.{Step}
+use Rattle.nested_itp.specs.TripleSteps.Steps.{FitColumns, AreSteps}
+use Rattle.nested_itp.proofs.TripleSteps.StepLaws.{total_is}
+use Rattle.nested_itp.proofs.TripleWalks.TableLaws.{tree_is}
 use Rattle.hoare_check.specs.Decided.{IsProofFor}
 use Rattle.nested_itp.proofs.CountLaws.{proved_over}
 use Rattle.nested_itp.proofs.CutLaws.{cuts_moved, fit_cuts}

@@ -4,12 +4,12 @@ use Rattle.farkas_check.specs.Nodes.{PlainNode, plain_nodes}
 use Rattle.letter_acts.specs.Invariant.{Graph, alphabet_of}
 use Rattle.nwa_base.specs.declared.letters.Letter.{Letter}
 use Rattle.nwa_base.specs.Automata.{IsAutomaton}
-use Rattle.nested_predicates.specs.Stamps.{stamps_of}
+use Rattle.nested_itp.specs.NestedPredicates.Stamps.{stamps_of}
 use Rattle.triple_rows.specs.Triples.{Agrees}
-use Rattle.triple_steps.specs.Steps.{FitColumns}
-use Rattle.triple_walks.specs.Leaves.{Ascends}
-use Rattle.triple_walks.specs.Putting.{IsPlaced}
-use Rattle.triple_walks.proofs.AscendLaws.{refutation_ascends}
+use Rattle.nested_itp.specs.TripleSteps.Steps.{FitColumns}
+use Rattle.nested_itp.specs.TripleWalks.Leaves.{Ascends}
+use Rattle.nested_itp.specs.TripleWalks.Putting.{IsPlaced}
+use Rattle.nested_itp.proofs.TripleWalks.AscendLaws.{refutation_ascends}
 use Rattle.nested_itp.proofs.AgreeingLaws.{kept_graph}
 use Rattle.nested_itp.proofs.CountLaws.{proofs_counted}
 use Rattle.nested_itp.proofs.CutLaws.{nodes_placed}

@@ -1,6 +1,6 @@
 use Rattle.std.proofs.Common.{take}
 use Rattle.letter_acts.specs.Invariant.{alphabet_of}
-use Rattle.nested_itp.specs.Proofs.{AreProofsOf}
+use Rattle.nested_itp.specs.Ties.Proofs.{AreProofsOf}
 use Rattle.nested_itp.proofs.making.proofs.Given as goal
 
 abbrev pub invariant-loop-at : goal.invariant-loop-at

@@ -1,5 +1,5 @@
 use Rattle.std.proofs.Common.{◌≡◌, ◌++◌, drop}
-use Rattle.nwa_base.specs.Reading.{keyed}
+use Rattle.nwa_base.specs.Ties.Reading.{keyed}
 use Rattle.nwa_base.proofs.pairs.add_keyed.Given as goal
 
 abbrev pub invariant-loop-e : goal.invariant-loop-e

@@ -1,7 +1,7 @@
 use Rattle.std.proofs.Common.{◌≡◌, ◌++◌, ℕ, drop, eqb}
 use Rattle.std.specs.HashMap.{get}
 use Rattle.nwa_base.specs.Groups.{grouped}
-use Rattle.nwa_base.specs.Reading.{seconds}
+use Rattle.nwa_base.specs.Ties.Reading.{seconds}
 use Rattle.nwa_base.proofs.pairs.grouped.Given as goal
 
 abbrev pub invariant-loop-p : goal.invariant-loop-p

@@ -1,6 +1,6 @@
 use Rattle.std.proofs.Common.{◌≡◌, ◌++◌, drop}
 use Rattle.nwa_base.specs.Edges.{ends}
-use Rattle.nwa_base.specs.Reading.{expanded}
+use Rattle.nwa_base.specs.Ties.Reading.{expanded}
 use Rattle.nwa_base.proofs.pairs.inside_pairs.Given as goal
 
 abbrev pub invariant-loop-key : goal.invariant-loop-key

@@ -1,7 +1,7 @@
 use Rattle.std.proofs.Common.{◌≡◌, ◌++◌, drop, eqb}
 use Rattle.std.specs.HashMap.{get}
 use Rattle.nwa_base.specs.Groups.{grouped}
-use Rattle.nwa_base.specs.Reading.{expanded}
+use Rattle.nwa_base.specs.Ties.Reading.{expanded}
 use Rattle.nwa_base.proofs.pairs.joined.Given as goal
 
 abbrev pub invariant-loop-key : goal.invariant-loop-key

@@ -1,5 +1,5 @@
 use Rattle.std.proofs.Common.{◌∷◌}
-use Rattle.nwa_base.specs.Reading.{sets_of}
+use Rattle.nwa_base.specs.Ties.Reading.{sets_of}
 use Rattle.nwa_base.proofs.ReadingLemmas.{IsReading}
 use Rattle.nwa_base.proofs.reading.accepts.Given as goal
 

@@ -1,5 +1,5 @@
 use Rattle.std.proofs.Common.{vec_len, reverse}
-use Rattle.nwa_base.specs.Reading.{sets_of}
+use Rattle.nwa_base.specs.Ties.Reading.{sets_of}
 use Rattle.nwa_base.proofs.TracingLemmas.{IsTracing}
 use Rattle.nwa_base.proofs.tracing.traced.Given as goal
 

@@ -1,7 +1,7 @@
 use Rattle.std.proofs.Common.{◌↔◌, subst}
 use Rattle.nwa_base.specs.Automata.{Automaton}
 use Rattle.nwa_base.specs.Acceptance.{Accepts}
-use Rattle.nwa_difference.specs.Seen.{seen}
+use Rattle.nwa_difference.specs.Ties.Seen.{seen}
 use Rattle.nwa_difference.proofs.DoneLemmas.{accepts_same}
 use Rattle.nwa_difference.proofs.making.difference.Goals as goal
 

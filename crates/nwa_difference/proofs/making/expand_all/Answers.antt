@@ -1,5 +1,5 @@
 use Rattle.std.proofs.Common.{◌≡◌, ◌∙◌, refl, sym, slice_get, None}
-use Rattle.nwa_difference.specs.Seen.{seen, found, stage}
+use Rattle.nwa_difference.specs.Ties.Seen.{seen, found, stage}
 use Rattle.nwa_difference.proofs.DoneLemmas.{done_none, done_more, product_is, member_get, past}
 use Rattle.nwa_difference.proofs.making.expand_all.Goals as goal
 

@@ -1,6 +1,6 @@
 use Rattle.std.proofs.Common.{◌≡◌, ◌-◌, ◌^◌}
-use Rattle.nwa_difference.specs.Stages.{IsStage}
-use Rattle.nwa_difference.specs.Seen.{seen, stage}
+use Rattle.nwa_difference.specs.Ties.Stages.{IsStage}
+use Rattle.nwa_difference.specs.Ties.Seen.{seen, stage}
 use Rattle.nwa_difference.proofs.DoneLemmas.{IsDone}
 use Rattle.nwa_difference.proofs.making.expand_all.Given as goal
 

@@ -1,7 +1,7 @@
 use Rattle.std.proofs.Common.{ap, arith}
 use Rattle.nwa_base.specs.Automata.{Automaton}
-use Rattle.nwa_difference.specs.Making.{Extends, Only, NoReturn, HasCall}
-use Rattle.nwa_difference.specs.Seen.{seen}
+use Rattle.nwa_difference.specs.Ties.Making.{Extends, Only, NoReturn, HasCall}
+use Rattle.nwa_difference.specs.Ties.Seen.{seen}
 use Rattle.nwa_difference.proofs.GrowingLemmas.{extends_on, extends_not, within_stays}
 use Rattle.nwa_difference.proofs.FollowLemmas.{followed_none, followed_more, followed_all}
 use Rattle.nwa_difference.proofs.OpeningLemmas.{one_call_stays, call_now, calls_made}

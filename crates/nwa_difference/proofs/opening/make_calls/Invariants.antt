@@ -1,6 +1,6 @@
 use Rattle.std.proofs.Common.{take}
-use Rattle.nwa_difference.specs.Making.{Extends, Only, NoReturn, HasCall}
-use Rattle.nwa_difference.specs.Seen.{seen}
+use Rattle.nwa_difference.specs.Ties.Making.{Extends, Only, NoReturn, HasCall}
+use Rattle.nwa_difference.specs.Ties.Seen.{seen}
 use Rattle.nwa_difference.proofs.FollowLemmas.{Followed}
 use Rattle.nwa_difference.proofs.opening.make_calls.Given as goal
 

@@ -1,5 +1,5 @@
-use Rattle.nwa_difference.specs.Making.{Only, NoReturn}
-use Rattle.nwa_difference.specs.Seen.{seen}
+use Rattle.nwa_difference.specs.Ties.Making.{Only, NoReturn}
+use Rattle.nwa_difference.specs.Ties.Seen.{seen}
 use Rattle.nwa_difference.proofs.GrowingLemmas.{extends_on, within_stays}
 use Rattle.nwa_difference.proofs.OpeningLemmas.{insides_stay}
 use Rattle.nwa_difference.proofs.opening.make_forward.Goals as goal

@@ -1,4 +1,4 @@
-use Rattle.nwa_difference.specs.Seen.{found, stage}
+use Rattle.nwa_difference.specs.Ties.Seen.{found, stage}
 use Rattle.nwa_difference.proofs.StageLemmas.{caller_goes, state_stays}
 use Rattle.nwa_difference.proofs.StepLemmas.{forward, expanded_none, expanded_some}
 use Rattle.nwa_difference.proofs.stepping.expand.Goals as goal

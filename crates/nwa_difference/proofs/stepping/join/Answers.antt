@@ -1,4 +1,4 @@
-use Rattle.nwa_difference.specs.Seen.{stage}
+use Rattle.nwa_difference.specs.Ties.Seen.{stage}
 use Rattle.nwa_difference.proofs.StageLemmas.{goes_on}
 use Rattle.nwa_difference.proofs.stepping.join.Goals as goal
 

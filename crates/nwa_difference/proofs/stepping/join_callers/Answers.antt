@@ -1,6 +1,6 @@
 use Rattle.std.proofs.Common.{◌∙◌, arith, None}
-use Rattle.nwa_difference.specs.Stages.{Goes, BacksFollowed}
-use Rattle.nwa_difference.specs.Seen.{stage}
+use Rattle.nwa_difference.specs.Ties.Stages.{Goes, BacksFollowed}
+use Rattle.nwa_difference.specs.Ties.Seen.{stage}
 use Rattle.nwa_difference.proofs.FollowLemmas.{followed_all, at_item}
 use Rattle.nwa_difference.proofs.StageLemmas.{state_stays, backs_followed_stay}
 use Rattle.nwa_difference.proofs.StepLemmas.{walk_none, walk_more, callers_done}

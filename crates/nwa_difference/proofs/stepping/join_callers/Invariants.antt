@@ -1,6 +1,6 @@
 use Rattle.std.proofs.Common.{take}
-use Rattle.nwa_difference.specs.Stages.{Goes, BacksFollowed}
-use Rattle.nwa_difference.specs.Seen.{stage}
+use Rattle.nwa_difference.specs.Ties.Stages.{Goes, BacksFollowed}
+use Rattle.nwa_difference.specs.Ties.Seen.{stage}
 use Rattle.nwa_difference.proofs.FollowLemmas.{Followed}
 use Rattle.nwa_difference.proofs.stepping.join_callers.Given as goal
 

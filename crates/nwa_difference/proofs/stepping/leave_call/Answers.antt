@@ -1,4 +1,4 @@
-use Rattle.nwa_difference.specs.Seen.{found, stage}
+use Rattle.nwa_difference.specs.Ties.Seen.{found, stage}
 use Rattle.nwa_difference.proofs.StageLemmas.{exit_goes}
 use Rattle.nwa_difference.proofs.StepLemmas.{exit_done}
 use Rattle.nwa_difference.proofs.stepping.leave_call.Goals as goal

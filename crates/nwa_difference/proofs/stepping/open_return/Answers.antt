@@ -1,4 +1,4 @@
-use Rattle.nwa_difference.specs.Seen.{seen, found, stage}
+use Rattle.nwa_difference.specs.Ties.Seen.{seen, found, stage}
 use Rattle.nwa_difference.proofs.StageLemmas.{joined_goes, was_joined}
 use Rattle.nwa_difference.proofs.stepping.open_return.Goals as goal
 

@@ -1,4 +1,4 @@
-use Rattle.nwa_difference.specs.Seen.{seen, found, stage}
+use Rattle.nwa_difference.specs.Ties.Seen.{seen, found, stage}
 use Rattle.nwa_difference.proofs.StageLemmas.{opened_goes, was_opened}
 use Rattle.nwa_difference.proofs.stepping.open_state.Goals as goal
 

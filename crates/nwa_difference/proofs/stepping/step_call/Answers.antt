@@ -1,5 +1,5 @@
 use Rattle.std.proofs.Common.{Some}
-use Rattle.nwa_difference.specs.Seen.{found, stage}
+use Rattle.nwa_difference.specs.Ties.Seen.{found, stage}
 use Rattle.nwa_difference.proofs.StageLemmas.{pair_goes}
 use Rattle.nwa_difference.proofs.StepLemmas.{call_done}
 use Rattle.nwa_difference.proofs.stepping.step_call.Goals as goal

@@ -1,7 +1,7 @@
 use Rattle.std.proofs.Common.{◌∙◌, ap, arith}
 use Rattle.nwa_base.specs.Automata.{Automaton}
-use Rattle.nwa_difference.specs.Stages.{Goes}
-use Rattle.nwa_difference.specs.Seen.{stage}
+use Rattle.nwa_difference.specs.Ties.Stages.{Goes}
+use Rattle.nwa_difference.specs.Ties.Seen.{stage}
 use Rattle.nwa_difference.proofs.FollowLemmas.{followed_all, item_leaving}
 use Rattle.nwa_difference.proofs.StageLemmas.{state_stays}
 use Rattle.nwa_difference.proofs.StepLemmas.{CallFollowed, walk_none, walk_more, exits_earlier, call_followed_stays, calls_done, call_ends_within}

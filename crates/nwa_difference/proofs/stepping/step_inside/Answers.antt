@@ -1,8 +1,8 @@
 use Rattle.std.proofs.Common.{ap, arith}
 use Rattle.nwa_base.specs.Automata.{Automaton}
 use Rattle.nwa_base.specs.Members.{Member}
-use Rattle.nwa_difference.specs.Stages.{Goes}
-use Rattle.nwa_difference.specs.Seen.{found, stage}
+use Rattle.nwa_difference.specs.Ties.Stages.{Goes}
+use Rattle.nwa_difference.specs.Ties.Seen.{found, stage}
 use Rattle.nwa_difference.proofs.FollowLemmas.{followed_all, item_leaving}
 use Rattle.nwa_difference.proofs.StageLemmas.{pair_stays, pair_goes}
 use Rattle.nwa_difference.proofs.StepLemmas.{walk_none, walk_more, insides_done, inside_ends_within}

@@ -1,7 +1,7 @@
 use Rattle.std.proofs.Common.{take}
 use Rattle.nwa_base.specs.Members.{Member}
-use Rattle.nwa_difference.specs.Stages.{Goes}
-use Rattle.nwa_difference.specs.Seen.{stage}
+use Rattle.nwa_difference.specs.Ties.Stages.{Goes}
+use Rattle.nwa_difference.specs.Ties.Seen.{stage}
 use Rattle.nwa_difference.proofs.FollowLemmas.{Followed}
 use Rattle.nwa_difference.proofs.stepping.step_inside.Given as goal
 

@@ -1,6 +1,6 @@
 use Rattle.std.proofs.Common.{take}
-use Rattle.nwa_difference.specs.Stages.{Goes}
-use Rattle.nwa_difference.specs.Seen.{stage}
+use Rattle.nwa_difference.specs.Ties.Stages.{Goes}
+use Rattle.nwa_difference.specs.Ties.Seen.{stage}
 use Rattle.nwa_difference.proofs.FollowLemmas.{Followed}
 use Rattle.nwa_difference.proofs.StepLemmas.{CallerFollowed}
 use Rattle.nwa_difference.proofs.stepping.step_returns.Given as goal

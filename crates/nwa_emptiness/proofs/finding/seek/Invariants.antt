@@ -1,6 +1,6 @@
 use Rattle.std.proofs.Common.{◌≡◌, ◌-◌, ◌^◌}
-use Rattle.nwa_emptiness.specs.Seen.{seen}
-use Rattle.nwa_emptiness.specs.Search.{IsSearch}
+use Rattle.nwa_emptiness.specs.Ties.Seen.{seen}
+use Rattle.nwa_emptiness.specs.Ties.Search.{IsSearch}
 use Rattle.nwa_emptiness.proofs.FoundLemmas.{IsDone}
 use Rattle.nwa_emptiness.proofs.finding.seek.Given as goal
 

@@ -1,5 +1,5 @@
 use Rattle.std.proofs.Common.{refl}
-use Rattle.nwa_emptiness.specs.Seen.{seen}
+use Rattle.nwa_emptiness.specs.Ties.Seen.{seen}
 use Rattle.nwa_emptiness.proofs.FoundLemmas.{made_word, accepted_is_matched, letters_accepted, word_accepted}
 use Rattle.nwa_emptiness.proofs.finding.spelled.Goals as goal
 

@@ -1,10 +1,10 @@
 use Rattle.std.proofs.Common.{sym, subst, List, Some}
-use Rattle.nwa_emptiness.specs.Seen.{seen}
+use Rattle.nwa_emptiness.specs.Ties.Seen.{seen}
 use Rattle.nwa_emptiness.specs.declared.spelling.Task.{Task}
 use Rattle.nwa_emptiness.specs.declared.spelling.Task.TheVariants as tasks
-use Rattle.nwa_emptiness.specs.Tasks.{AreFillings}
+use Rattle.nwa_emptiness.specs.Ties.Tasks.{AreFillings}
 use Rattle.nwa_emptiness.proofs.TaskLemmas.{replaced, dropped, whole_nowhere, whole_none, whole_some}
-use Rattle.nwa_emptiness.specs.Search.{CallerLeadsBack}
+use Rattle.nwa_emptiness.specs.Ties.Search.{CallerLeadsBack}
 use Rattle.nwa_emptiness.proofs.LoadLemmas.{whole_dropped, called_less, uncalled_less}
 use Rattle.nwa_emptiness.proofs.spelling.enter.Goals as goal
 

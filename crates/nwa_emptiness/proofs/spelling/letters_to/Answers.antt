@@ -1,7 +1,7 @@
 use Rattle.std.proofs.Common.{◌<◌, List, sym, subst}
-use Rattle.nwa_emptiness.specs.Seen.{seen}
+use Rattle.nwa_emptiness.specs.Ties.Seen.{seen}
 use Rattle.nwa_emptiness.specs.declared.spelling.Task.{Task}
-use Rattle.nwa_emptiness.specs.Loads.{load}
+use Rattle.nwa_emptiness.specs.Ties.Loads.{load}
 use Rattle.nwa_emptiness.specs.declared.spelling.Task.TheVariants as tasks
 use Rattle.nwa_emptiness.proofs.TaskLemmas.{rest_first, rest_last, rest_popped, none_left}
 use Rattle.nwa_emptiness.proofs.spelling.letters_to.Goals as goal

@@ -1,9 +1,9 @@
 use Rattle.std.proofs.Common.{List}
 use Rattle.nwa_base.specs.declared.letters.Letter.{Letter}
-use Rattle.nwa_emptiness.specs.Seen.{seen}
+use Rattle.nwa_emptiness.specs.Ties.Seen.{seen}
 use Rattle.nwa_emptiness.specs.declared.spelling.Task.TheVariants as tasks
-use Rattle.nwa_emptiness.specs.Loads.{load}
-use Rattle.nwa_emptiness.specs.Tasks.{IsFilling, IsRest}
+use Rattle.nwa_emptiness.specs.Ties.Loads.{load}
+use Rattle.nwa_emptiness.specs.Ties.Tasks.{IsFilling, IsRest}
 use Rattle.nwa_emptiness.proofs.spelling.letters_to.Given as goal
 
 abbrev pub invariant-loop-task : goal.invariant-loop-task

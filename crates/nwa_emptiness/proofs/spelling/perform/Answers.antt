@@ -1,12 +1,12 @@
 use Rattle.std.proofs.Common.{◌<◌, List, [], ◌∷◌, ◌++◌, sym, subst}
 use Rattle.std.proofs.lemmas.Result.{on_ok_weaker}
 use Rattle.nwa_base.specs.declared.letters.Letter.{Letter}
-use Rattle.nwa_emptiness.specs.Seen.{seen}
+use Rattle.nwa_emptiness.specs.Ties.Seen.{seen}
 use Rattle.nwa_emptiness.specs.declared.spelling.Task.TheVariants as tasks
-use Rattle.nwa_emptiness.specs.Tasks.{AreFillings, IsRest}
+use Rattle.nwa_emptiness.specs.Ties.Tasks.{AreFillings, IsRest}
 use Rattle.nwa_emptiness.proofs.TaskLemmas.{letter_written, task_is}
 use Rattle.nwa_emptiness.specs.declared.spelling.Task.{Task}
-use Rattle.nwa_emptiness.specs.Loads.{load}
+use Rattle.nwa_emptiness.specs.Ties.Loads.{load}
 use Rattle.nwa_emptiness.proofs.LoadLemmas.{letter_dropped}
 use Rattle.nwa_emptiness.proofs.spelling.perform.Goals as goal
 

@@ -1,12 +1,12 @@
 use Rattle.std.proofs.Common.{sym}
-use Rattle.nwa_emptiness.specs.Seen.{seen}
+use Rattle.nwa_emptiness.specs.Ties.Seen.{seen}
 use Rattle.nwa_emptiness.specs.declared.spelling.Task.TheVariants as tasks
-use Rattle.nwa_emptiness.specs.Tasks.{AreFillings}
+use Rattle.nwa_emptiness.specs.Ties.Tasks.{AreFillings}
 use Rattle.std.proofs.Common.{subst, List}
 use Rattle.nwa_emptiness.specs.declared.spelling.Task.{Task}
 use Rattle.nwa_emptiness.proofs.TaskLemmas.{replaced, dropped, segment_nowhere, segment_begin, segment_call, segment_inside, segment_back}
 use Rattle.nwa_emptiness.specs.declared.search.Link.TheVariants as links
-use Rattle.nwa_emptiness.specs.Search.{LinkLeadsBack}
+use Rattle.nwa_emptiness.specs.Ties.Search.{LinkLeadsBack}
 use Rattle.nwa_emptiness.proofs.LoadLemmas.{segment_dropped, inside_less, back_less}
 use Rattle.nwa_emptiness.proofs.spelling.split.Goals as goal
 

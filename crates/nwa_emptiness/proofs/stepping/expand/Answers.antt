@@ -1,8 +1,8 @@
 use Rattle.std.proofs.Common.{◌≡◌, ℕ, Option, Some, slice_get, subst}
 use Rattle.std.proofs.lemmas.Result.{on_ok_weaker}
-use Rattle.nwa_emptiness.specs.Seen.{seen}
-use Rattle.nwa_emptiness.specs.Search.{Keeps}
-use Rattle.nwa_emptiness.specs.Steps.{ReturnsDone}
+use Rattle.nwa_emptiness.specs.Ties.Seen.{seen}
+use Rattle.nwa_emptiness.specs.Ties.Search.{Keeps}
+use Rattle.nwa_emptiness.specs.Ties.Steps.{ReturnsDone}
 use Rattle.nwa_emptiness.proofs.WalkLemmas.{expanded_none, expanded_some}
 use Rattle.nwa_emptiness.proofs.StepLemmas.{inside_stays}
 use Rattle.nwa_emptiness.proofs.stepping.expand.Goals as goal

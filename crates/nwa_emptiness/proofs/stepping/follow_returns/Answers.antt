@@ -1,7 +1,7 @@
 use Rattle.std.proofs.Common.{◌∙◌, ap, sym, arith}
 use Rattle.nwa_base.specs.Members.{Member}
 use Rattle.nwa_base.specs.Automata.{Automaton}
-use Rattle.nwa_emptiness.specs.Seen.{seen}
+use Rattle.nwa_emptiness.specs.Ties.Seen.{seen}
 use Rattle.nwa_emptiness.proofs.SearchLemmas.{member_kept}
 use Rattle.nwa_emptiness.proofs.StepLemmas.{point_stays, joint_stays, back_way, followed_more, followed_all}
 use Rattle.nwa_emptiness.proofs.WalkLemmas.{item_between, between_done}

@@ -1,8 +1,8 @@
 use Rattle.std.proofs.Common.{ℕ, sym, subst}
 use Rattle.std.proofs.lemmas.Result.{on_ok_weaker}
-use Rattle.nwa_emptiness.specs.Seen.{seen}
-use Rattle.nwa_emptiness.specs.Search.{Keeps}
-use Rattle.nwa_emptiness.specs.Steps.{IsJoint, Joined}
+use Rattle.nwa_emptiness.specs.Ties.Seen.{seen}
+use Rattle.nwa_emptiness.specs.Ties.Search.{Keeps}
+use Rattle.nwa_emptiness.specs.Ties.Steps.{IsJoint, Joined}
 use Rattle.nwa_emptiness.proofs.WalkLemmas.{joined_at}
 use Rattle.nwa_emptiness.proofs.stepping.join.Goals as goal
 

@@ -1,6 +1,6 @@
 use Rattle.std.proofs.Common.{◌∙◌, arith}
-use Rattle.nwa_emptiness.specs.Seen.{seen}
-use Rattle.nwa_emptiness.specs.Steps.{Joined}
+use Rattle.nwa_emptiness.specs.Ties.Seen.{seen}
+use Rattle.nwa_emptiness.specs.Ties.Steps.{Joined}
 use Rattle.nwa_emptiness.proofs.StepLemmas.{joined_later, joined_earlier, followed_more, followed_all}
 use Rattle.nwa_emptiness.proofs.WalkLemmas.{item_of, joint_caller, callers_done}
 use Rattle.nwa_emptiness.proofs.stepping.join_callers.Goals as goal

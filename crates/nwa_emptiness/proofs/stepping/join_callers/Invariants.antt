@@ -1,6 +1,6 @@
 use Rattle.std.proofs.Common.{take}
-use Rattle.nwa_emptiness.specs.Seen.{seen}
-use Rattle.nwa_emptiness.specs.Steps.{Joined}
+use Rattle.nwa_emptiness.specs.Ties.Seen.{seen}
+use Rattle.nwa_emptiness.specs.Ties.Steps.{Joined}
 use Rattle.nwa_emptiness.proofs.StepLemmas.{Followed}
 use Rattle.nwa_emptiness.proofs.stepping.join_callers.Given as goal
 

@@ -1,7 +1,7 @@
 use Rattle.std.proofs.lemmas.Result.{on_ok_weaker}
-use Rattle.nwa_emptiness.specs.Seen.{seen}
-use Rattle.nwa_emptiness.specs.Search.{Keeps}
-use Rattle.nwa_emptiness.specs.Steps.{ExitsJoined}
+use Rattle.nwa_emptiness.specs.Ties.Seen.{seen}
+use Rattle.nwa_emptiness.specs.Ties.Search.{Keeps}
+use Rattle.nwa_emptiness.specs.Ties.Steps.{ExitsJoined}
 use Rattle.nwa_emptiness.proofs.SearchLemmas.{keeps_on, member_kept}
 use Rattle.nwa_emptiness.proofs.WalkLemmas.{exits_earlier}
 use Rattle.nwa_emptiness.proofs.StepLemmas.{call_way, called_stays}

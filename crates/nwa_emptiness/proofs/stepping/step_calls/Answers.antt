@@ -1,8 +1,8 @@
 use Rattle.std.proofs.Common.{◌∙◌, ap, sym, arith, Some}
 use Rattle.nwa_base.specs.Members.{Member}
 use Rattle.nwa_base.specs.Automata.{Automaton}
-use Rattle.nwa_emptiness.specs.Seen.{seen}
-use Rattle.nwa_emptiness.specs.Steps.{ExitsJoined}
+use Rattle.nwa_emptiness.specs.Ties.Seen.{seen}
+use Rattle.nwa_emptiness.specs.Ties.Steps.{ExitsJoined}
 use Rattle.nwa_emptiness.proofs.SearchLemmas.{member_kept}
 use Rattle.nwa_emptiness.proofs.StepLemmas.{followed_more, followed_all}
 use Rattle.nwa_emptiness.proofs.WalkLemmas.{item_leaving, called_point, exits_later, exits_earlier, calls_done}

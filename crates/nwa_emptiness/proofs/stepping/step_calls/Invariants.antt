@@ -1,7 +1,7 @@
 use Rattle.std.proofs.Common.{take, Some}
 use Rattle.nwa_base.specs.Members.{Member}
-use Rattle.nwa_emptiness.specs.Seen.{seen}
-use Rattle.nwa_emptiness.specs.Steps.{ExitsJoined}
+use Rattle.nwa_emptiness.specs.Ties.Seen.{seen}
+use Rattle.nwa_emptiness.specs.Ties.Steps.{ExitsJoined}
 use Rattle.nwa_emptiness.proofs.StepLemmas.{Followed}
 use Rattle.nwa_emptiness.proofs.stepping.step_calls.Given as goal
 

@@ -1,7 +1,7 @@
 use Rattle.std.proofs.lemmas.Result.{on_ok_weaker}
-use Rattle.nwa_emptiness.specs.Seen.{seen}
-use Rattle.nwa_emptiness.specs.Search.{Keeps}
-use Rattle.nwa_emptiness.specs.Steps.{InsideDone, CallsDone}
+use Rattle.nwa_emptiness.specs.Ties.Seen.{seen}
+use Rattle.nwa_emptiness.specs.Ties.Search.{Keeps}
+use Rattle.nwa_emptiness.specs.Ties.Steps.{InsideDone, CallsDone}
 use Rattle.nwa_emptiness.proofs.SearchLemmas.{keeps_on}
 use Rattle.nwa_emptiness.proofs.WalkLemmas.{inside_later, inside_earlier, calls_later, calls_earlier}
 use Rattle.nwa_emptiness.proofs.StepLemmas.{point_stays}

@@ -1,7 +1,7 @@
 use Rattle.std.proofs.Common.{◌∙◌, ap, sym, arith}
 use Rattle.nwa_base.specs.Automata.{Automaton}
-use Rattle.nwa_emptiness.specs.Seen.{seen}
-use Rattle.nwa_emptiness.specs.Steps.{CallersJoined}
+use Rattle.nwa_emptiness.specs.Ties.Seen.{seen}
+use Rattle.nwa_emptiness.specs.Ties.Steps.{CallersJoined}
 use Rattle.nwa_emptiness.proofs.StepLemmas.{followed_more, followed_all}
 use Rattle.nwa_emptiness.proofs.WalkLemmas.{item_entering, called_from, callers_later, callers_earlier, returns_done}
 use Rattle.nwa_emptiness.proofs.stepping.step_returns.Goals as goal

@@ -1,6 +1,6 @@
 use Rattle.std.proofs.Common.{take}
-use Rattle.nwa_emptiness.specs.Seen.{seen}
-use Rattle.nwa_emptiness.specs.Steps.{CallersJoined}
+use Rattle.nwa_emptiness.specs.Ties.Seen.{seen}
+use Rattle.nwa_emptiness.specs.Ties.Steps.{CallersJoined}
 use Rattle.nwa_emptiness.proofs.StepLemmas.{Followed}
 use Rattle.nwa_emptiness.proofs.stepping.step_returns.Given as goal
 

@@ -1,7 +1,7 @@
 use Rattle.std.proofs.Common.{ℕ, refl, arith}
 use Rattle.nwa_base.specs.declared.letters.Letter.{Letter}
-use Rattle.nwa_reduce.specs.Naming.{named}
-use Rattle.nwa_reduce.specs.Folding.{LeadsToName}
+use Rattle.nwa_reduce.specs.Ties.Naming.{named}
+use Rattle.nwa_reduce.specs.Ties.Folding.{LeadsToName}
 use Rattle.nwa_reduce.proofs.EachLemmas.{each_none, each_on, each_all}
 use Rattle.nwa_reduce.proofs.CopyLemmas.{leads_to_name}
 use Rattle.nwa_reduce.proofs.folding.has_calls.Goals as goal

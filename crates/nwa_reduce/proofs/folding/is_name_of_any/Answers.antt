@@ -1,5 +1,5 @@
 use Rattle.std.proofs.Common.{refl}
-use Rattle.nwa_reduce.specs.Naming.{named}
+use Rattle.nwa_reduce.specs.Ties.Naming.{named}
 use Rattle.nwa_reduce.proofs.CopyLemmas.{name_there}
 use Rattle.nwa_reduce.proofs.folding.is_name_of_any.Goals as goal
 

@@ -1,5 +1,5 @@
 use Rattle.std.proofs.Common.{◌∙◌, sym}
-use Rattle.nwa_reduce.specs.Naming.{named}
+use Rattle.nwa_reduce.specs.Ties.Naming.{named}
 use Rattle.nwa_reduce.proofs.CopyLemmas.{join_copy, no_exit, no_before}
 use Rattle.nwa_reduce.proofs.folding.join_is_copy.Goals as goal
 

@@ -1,6 +1,6 @@
 use Rattle.std.proofs.Common.{ℕ, refl, arith}
-use Rattle.nwa_reduce.specs.Naming.{named}
-use Rattle.nwa_reduce.specs.Folding.{IsJoinCopy}
+use Rattle.nwa_reduce.specs.Ties.Naming.{named}
+use Rattle.nwa_reduce.specs.Ties.Folding.{IsJoinCopy}
 use Rattle.nwa_reduce.proofs.EachLemmas.{each_none, each_on, each_all}
 use Rattle.nwa_reduce.proofs.folding.joins_are_copies.Goals as goal
 

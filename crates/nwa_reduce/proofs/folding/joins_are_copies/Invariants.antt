@@ -1,6 +1,6 @@
 use Rattle.std.proofs.Common.{take}
-use Rattle.nwa_reduce.specs.Naming.{named}
-use Rattle.nwa_reduce.specs.Folding.{IsJoinCopy}
+use Rattle.nwa_reduce.specs.Ties.Naming.{named}
+use Rattle.nwa_reduce.specs.Ties.Folding.{IsJoinCopy}
 use Rattle.nwa_reduce.proofs.EachLemmas.{Each}
 use Rattle.nwa_reduce.proofs.folding.joins_are_copies.Given as goal
 

@@ -1,5 +1,5 @@
 use Rattle.std.proofs.Common.{◌∙◌, sym, refl}
-use Rattle.nwa_reduce.specs.Naming.{named}
+use Rattle.nwa_reduce.specs.Ties.Naming.{named}
 use Rattle.nwa_reduce.proofs.CopyLemmas.{state_copy}
 use Rattle.nwa_reduce.proofs.folding.state_is_copy.Goals as goal
 

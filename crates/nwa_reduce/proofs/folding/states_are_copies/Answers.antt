@@ -1,5 +1,5 @@
 use Rattle.std.proofs.Common.{refl, arith}
-use Rattle.nwa_reduce.specs.Naming.{named}
+use Rattle.nwa_reduce.specs.Ties.Naming.{named}
 use Rattle.nwa_reduce.proofs.CopyLemmas.{copies_none, copies_more}
 use Rattle.nwa_reduce.proofs.folding.states_are_copies.Goals as goal
 

@@ -1,4 +1,4 @@
-use Rattle.nwa_reduce.specs.Naming.{named}
+use Rattle.nwa_reduce.specs.Ties.Naming.{named}
 use Rattle.nwa_reduce.proofs.CopyLemmas.{CopiesBelow}
 use Rattle.nwa_reduce.proofs.folding.states_are_copies.Given as goal
 

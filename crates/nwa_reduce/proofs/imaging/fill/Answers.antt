@@ -1,7 +1,7 @@
 use Rattle.std.proofs.Common.{◌≡◌, ◌++◌, ◌↔◌, ℕ, List}
 use Rattle.nwa_base.specs.Members.{Member}
 use Rattle.nwa_base.specs.declared.letters.Letter.{Letter}
-use Rattle.nwa_reduce.specs.Naming.{named}
+use Rattle.nwa_reduce.specs.Ties.Naming.{named}
 use Rattle.nwa_reduce.specs.Images.{Among, IsNamedBack}
 use Rattle.nwa_reduce.proofs.MadeLemmas.{on_ok, image_made}
 use Rattle.nwa_reduce.proofs.imaging.fill.Goals as goal

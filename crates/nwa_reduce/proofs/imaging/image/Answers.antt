@@ -1,6 +1,6 @@
 use Rattle.std.proofs.Common.{◌≡◌, ◌∙◌, ◌<◌, ℕ, Some, sym, ap, subst}
 use Rattle.nwa_base.specs.Automata.{Automaton}
-use Rattle.nwa_reduce.specs.Naming.{named}
+use Rattle.nwa_reduce.specs.Ties.Naming.{named}
 use Rattle.nwa_reduce.proofs.MadeLemmas.{made_ok, bare_is}
 use Rattle.nwa_reduce.proofs.imaging.image.Goals as goal
 

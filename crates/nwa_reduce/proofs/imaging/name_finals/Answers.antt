@@ -1,5 +1,5 @@
 use Rattle.std.proofs.Common.{◌≡◌, ◌++◌, ℕ, Some}
-use Rattle.nwa_reduce.specs.Naming.{named}
+use Rattle.nwa_reduce.specs.Ties.Naming.{named}
 use Rattle.nwa_reduce.proofs.MadeLemmas.{on_ok, collected_from}
 use Rattle.nwa_reduce.proofs.BoundLemmas.{states_fit}
 use Rattle.nwa_reduce.proofs.imaging.name_finals.Goals as goal

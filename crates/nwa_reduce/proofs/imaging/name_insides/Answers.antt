@@ -1,5 +1,5 @@
 use Rattle.std.proofs.Common.{◌≡◌, ◌++◌}
-use Rattle.nwa_reduce.specs.Naming.{named}
+use Rattle.nwa_reduce.specs.Ties.Naming.{named}
 use Rattle.nwa_reduce.specs.Images.{IsNamedEdge}
 use Rattle.nwa_reduce.proofs.MadeLemmas.{on_ok, collected_from}
 use Rattle.nwa_base.specs.declared.letters.Kind.TheVariants.{Inside}

@@ -1,5 +1,5 @@
 use Rattle.std.proofs.Common.{arith}
-use Rattle.nwa_reduce.specs.Naming.{named}
+use Rattle.nwa_reduce.specs.Ties.Naming.{named}
 use Rattle.nwa_reduce.specs.Images.{IsNamedBack}
 use Rattle.nwa_reduce.proofs.CollectLemmas.{collected_none, collected_skips, collected_puts, collected_all, one_back, back_there}
 use Rattle.nwa_reduce.proofs.imaging.named_backs.Goals as goal

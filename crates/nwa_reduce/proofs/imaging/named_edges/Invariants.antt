@@ -1,5 +1,5 @@
 use Rattle.std.proofs.Common.{take}
-use Rattle.nwa_reduce.specs.Naming.{named}
+use Rattle.nwa_reduce.specs.Ties.Naming.{named}
 use Rattle.nwa_reduce.specs.Images.{IsNamedEdge}
 use Rattle.nwa_reduce.proofs.CollectLemmas.{IsCollected}
 use Rattle.nwa_reduce.proofs.imaging.named_edges.Given as goal

@@ -1,5 +1,5 @@
 use Rattle.std.proofs.Common.{◌≡◌, ℕ, Some, sym, arith}
-use Rattle.nwa_reduce.specs.Naming.{named}
+use Rattle.nwa_reduce.specs.Ties.Naming.{named}
 use Rattle.nwa_reduce.proofs.ListLemmas.{number_there}
 use Rattle.nwa_reduce.proofs.CollectLemmas.{collected_none, collected_skips, collected_puts, collected_all, one_name, not_named}
 use Rattle.nwa_reduce.proofs.imaging.named_states.Goals as goal

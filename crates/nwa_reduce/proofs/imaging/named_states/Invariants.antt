@@ -1,5 +1,5 @@
 use Rattle.std.proofs.Common.{◌≡◌, ℕ, Some, take}
-use Rattle.nwa_reduce.specs.Naming.{named}
+use Rattle.nwa_reduce.specs.Ties.Naming.{named}
 use Rattle.nwa_reduce.proofs.CollectLemmas.{IsCollected}
 use Rattle.nwa_reduce.proofs.imaging.named_states.Given as goal
 

@@ -1,5 +1,5 @@
 use Rattle.std.proofs.Common.{take}
-use Rattle.nwa_reduce.specs.Levels.{JoinsExits}
+use Rattle.nwa_reduce.specs.Ties.Levels.{JoinsExits}
 use Rattle.nwa_reduce.proofs.joining.join_all.Given as goal
 
 abbrev pub invariant-loop-exit : goal.invariant-loop-exit

@@ -1,5 +1,5 @@
 use Rattle.std.proofs.Common.{take}
-use Rattle.nwa_reduce.specs.Levels.{JoinsCallers}
+use Rattle.nwa_reduce.specs.Ties.Levels.{JoinsCallers}
 use Rattle.nwa_reduce.proofs.joining.join_callers.Given as goal
 
 abbrev pub invariant-loop-before : goal.invariant-loop-before

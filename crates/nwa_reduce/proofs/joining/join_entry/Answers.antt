@@ -1,5 +1,5 @@
 use Rattle.std.proofs.Common.{◌∙◌, [], ◌∷◌, refl, sym}
-use Rattle.nwa_reduce.specs.Rows.{row_of}
+use Rattle.nwa_reduce.specs.Ties.Rows.{row_of}
 use Rattle.nwa_reduce.proofs.MadeLemmas.{on_ok}
 use Rattle.nwa_reduce.proofs.JoinLemmas.{entry_none, entry_all}
 use Rattle.nwa_reduce.proofs.joining.join_entry.Goals as goal

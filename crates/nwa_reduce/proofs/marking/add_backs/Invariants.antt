@@ -1,5 +1,5 @@
 use Rattle.std.proofs.Common.{◌≡◌, ◌++◌, drop}
-use Rattle.nwa_reduce.specs.Marks.{leader_in, back_marks}
+use Rattle.nwa_reduce.specs.Ties.Marks.{leader_in, back_marks}
 use Rattle.nwa_reduce.proofs.marking.add_backs.Given as goal
 
 abbrev pub invariant-loop-before : goal.invariant-loop-before

@@ -1,5 +1,5 @@
 use Rattle.std.proofs.Common.{◌≡◌, ◌++◌, drop}
-use Rattle.nwa_reduce.specs.Marks.{leader_in, before_marks}
+use Rattle.nwa_reduce.specs.Ties.Marks.{leader_in, before_marks}
 use Rattle.nwa_reduce.proofs.marking.add_befores.Given as goal
 
 abbrev pub invariant-loop-exit : goal.invariant-loop-exit

@@ -2,7 +2,7 @@ use Rattle.std.proofs.Common.{ℕ, get_or, ap}
 use Rattle.nwa_base.specs.declared.letters.Kind.TheVariants.{Inside}
 use Rattle.nwa_base.specs.declared.letters.Letter.{Letter}
 use Rattle.nwa_reduce.specs.declared.marking.Mark.TheVariants as marks
-use Rattle.nwa_reduce.specs.Marks.{leader_in}
+use Rattle.nwa_reduce.specs.Ties.Marks.{leader_in}
 use Rattle.nwa_reduce.proofs.MarkLemmas.{mapped_on}
 use Rattle.nwa_reduce.proofs.marking.add_insides.Goals as goal
 

@@ -1,5 +1,5 @@
 use Rattle.std.proofs.Common.{◌≡◌, ◌++◌, drop}
-use Rattle.nwa_reduce.specs.Marks.{leader_in, inside_marks}
+use Rattle.nwa_reduce.specs.Ties.Marks.{leader_in, inside_marks}
 use Rattle.nwa_reduce.proofs.marking.add_insides.Given as goal
 
 abbrev pub invariant-loop-letter : goal.invariant-loop-letter

@@ -1,4 +1,4 @@
-use Rattle.nwa_reduce.specs.Marks.{leader_in}
+use Rattle.nwa_reduce.specs.Ties.Marks.{leader_in}
 use Rattle.nwa_reduce.proofs.MarkLemmas.{marks_are}
 use Rattle.nwa_reduce.proofs.marking.marks_of.Goals as goal
 

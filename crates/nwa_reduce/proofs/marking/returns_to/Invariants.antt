@@ -1,6 +1,6 @@
 use Rattle.std.proofs.Common.{◌≡◌, ◌++◌, ℕ, drop}
-use Rattle.nwa_reduce.specs.Rows.{row_of}
-use Rattle.nwa_reduce.specs.Marks.{backs_before}
+use Rattle.nwa_reduce.specs.Ties.Rows.{row_of}
+use Rattle.nwa_reduce.specs.Ties.Marks.{backs_before}
 use Rattle.nwa_reduce.proofs.marking.returns_to.Given as goal
 
 abbrev pub invariant-loop-edge : goal.invariant-loop-edge

@@ -1,6 +1,6 @@
 use Rattle.std.proofs.Common.{◌≡◌, ◌∙◌, ℕ, List, Option, length, sym, subst, arith}
-use Rattle.nwa_reduce.specs.Naming.{IsMerging}
-use Rattle.nwa_reduce.specs.Seen.{seen}
+use Rattle.nwa_reduce.specs.Ties.Naming.{IsMerging}
+use Rattle.nwa_reduce.specs.Ties.Seen.{seen}
 use Rattle.nwa_reduce.proofs.MergeLemmas.{merges}
 use Rattle.nwa_reduce.proofs.merging.class_names.Goals as goal
 

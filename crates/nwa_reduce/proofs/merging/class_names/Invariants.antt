@@ -1,6 +1,6 @@
 use Rattle.std.proofs.Common.{◌≡◌, length}
-use Rattle.nwa_reduce.specs.Seen.{seen}
-use Rattle.nwa_reduce.specs.Classes.{IsClassed}
+use Rattle.nwa_reduce.specs.Ties.Seen.{seen}
+use Rattle.nwa_reduce.specs.Ties.Classes.{IsClassed}
 use Rattle.nwa_reduce.proofs.merging.class_names.Given as goal
 
 abbrev pub invariant-loop-state : goal.invariant-loop-state

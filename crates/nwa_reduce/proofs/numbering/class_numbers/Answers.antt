@@ -1,6 +1,6 @@
 use Rattle.std.proofs.Common.{◌≡◌, ◌∙◌, ℕ, Some, sym, ap, subst, refl, arith}
 use Rattle.std.proofs.lemmas.Bool.{eqb-true}
-use Rattle.nwa_reduce.specs.Folding.{IsTotal}
+use Rattle.nwa_reduce.specs.Ties.Folding.{IsTotal}
 use Rattle.nwa_reduce.proofs.NumberingLemmas.{numbering_none, numbering_more, numbering_all}
 use Rattle.nwa_reduce.proofs.numbering.class_numbers.Goals as goal
 

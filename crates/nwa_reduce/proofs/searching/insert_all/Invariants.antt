@@ -1,5 +1,5 @@
 use Rattle.std.proofs.Common.{take}
-use Rattle.nwa_reduce.specs.Searching.{Inserts}
+use Rattle.nwa_reduce.specs.Ties.Searching.{Inserts}
 use Rattle.nwa_reduce.proofs.searching.insert_all.Given as goal
 
 abbrev pub invariant-loop-state : goal.invariant-loop-state

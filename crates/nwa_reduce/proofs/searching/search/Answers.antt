@@ -1,6 +1,6 @@
 use Rattle.std.proofs.Common.{◌≡◌, ◌∙◌, None, slice_get, sym, subst}
-use Rattle.nwa_reduce.specs.Rows.{row_of}
-use Rattle.nwa_reduce.specs.Searching.{Inserts}
+use Rattle.nwa_reduce.specs.Ties.Rows.{row_of}
+use Rattle.nwa_reduce.specs.Ties.Searching.{Inserts}
 use Rattle.nwa_reduce.proofs.ListLemmas.{past_end}
 use Rattle.nwa_reduce.proofs.SearchLemmas.{begun, searched_on, searched_whole}
 use Rattle.nwa_reduce.proofs.searching.search.Goals as goal

@@ -1,5 +1,5 @@
 use Rattle.std.proofs.Common.{take}
-use Rattle.nwa_reduce.specs.Marks.{IsNumbered}
+use Rattle.nwa_reduce.specs.Ties.Marks.{IsNumbered}
 use Rattle.nwa_reduce.proofs.signing.numbered.Given as goal
 
 abbrev pub invariant-loop-mark : goal.invariant-loop-mark

@@ -1,7 +1,7 @@
 use Rattle.std.proofs.Common.{ℕ, take}
 use Rattle.nwa_base.specs.declared.letters.Letter.{Letter}
-use Rattle.nwa_reduce.specs.Rows.{row_of}
-use Rattle.nwa_reduce.specs.Searching.{AddsSteps}
+use Rattle.nwa_reduce.specs.Ties.Rows.{row_of}
+use Rattle.nwa_reduce.specs.Ties.Searching.{AddsSteps}
 use Rattle.nwa_reduce.proofs.stepping.add_back_ends.Given as goal
 
 abbrev pub invariant-loop-state : goal.invariant-loop-state

@@ -1,4 +1,4 @@
-use Rattle.nwa_reduce.specs.Rows.{row_of}
+use Rattle.nwa_reduce.specs.Ties.Rows.{row_of}
 use Rattle.nwa_reduce.proofs.TrimLemmas.{ends_by}
 use Rattle.nwa_reduce.proofs.trimming.ending.Goals as goal
 

@@ -1,5 +1,5 @@
 use Rattle.std.proofs.Common.{◌∙◌, ◌≡◌, ℕ, List, length, sym, ap, subst, arith}
-use Rattle.nwa_reduce.specs.Naming.{IsTrimming, IsIndex}
+use Rattle.nwa_reduce.specs.Ties.Naming.{IsTrimming, IsIndex}
 use Rattle.nwa_reduce.proofs.TrimLemmas.{IsFound, kept_few, trimmed}
 use Rattle.nwa_reduce.proofs.trimming.named_by.Goals as goal
 

@@ -1,5 +1,5 @@
 use Rattle.std.proofs.Common.{ℕ, sym, subst, arith, ◌∙◌}
-use Rattle.nwa_reduce.specs.Naming.{IsOrder}
+use Rattle.nwa_reduce.specs.Ties.Naming.{IsOrder}
 use Rattle.nwa_reduce.proofs.ListLemmas.{number_there, number_absent}
 use Rattle.nwa_reduce.proofs.NameLemmas.{order_none, order_skips, order_puts, order_whole}
 use Rattle.nwa_reduce.proofs.trimming.ordered.Goals as goal

@@ -1,5 +1,5 @@
 use Rattle.std.proofs.Common.{◌≡◌, take, length}
-use Rattle.nwa_reduce.specs.Naming.{IsIndex}
+use Rattle.nwa_reduce.specs.Ties.Naming.{IsIndex}
 use Rattle.nwa_reduce.proofs.trimming.place_each.Given as goal
 
 abbrev pub invariant-loop-place : goal.invariant-loop-place

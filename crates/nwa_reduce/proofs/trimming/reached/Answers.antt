@@ -1,5 +1,5 @@
 use Rattle.std.proofs.Common.{ℕ, [], ◌∷◌, ap}
-use Rattle.nwa_reduce.specs.Rows.{row_of}
+use Rattle.nwa_reduce.specs.Ties.Rows.{row_of}
 use Rattle.nwa_reduce.proofs.TrimLemmas.{reached_by}
 use Rattle.nwa_reduce.proofs.trimming.reached.Goals as goal
 

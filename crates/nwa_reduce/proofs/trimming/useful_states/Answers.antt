@@ -1,5 +1,5 @@
 use Rattle.std.proofs.Common.{List, ℕ, subst}
-use Rattle.nwa_reduce.specs.Naming.{IsOrder}
+use Rattle.nwa_reduce.specs.Ties.Naming.{IsOrder}
 use Rattle.nwa_reduce.proofs.MadeLemmas.{if_ok_so}
 use Rattle.nwa_reduce.proofs.trimming.useful_states.Goals as goal
 

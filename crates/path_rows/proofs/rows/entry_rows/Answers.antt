@@ -1,6 +1,6 @@
 use Rattle.std.proofs.Common.{◌∙◌, ◌++◌, ◌∷◌, [], ap}
 use Rattle.lin_rows.specs.Rows.{LinearRow, IsRow}
-use Rattle.frame_rows.proofs.LoopLaws.{all_pushed}
+use Rattle.letter_acts.proofs.FrameRows.LoopLaws.{all_pushed}
 use Rattle.path_rows.proofs.LoopLemmas.{entries_next}
 use Rattle.path_rows.proofs.rows.entry_rows.Goals as goal
 

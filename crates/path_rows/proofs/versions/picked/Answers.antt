@@ -1,6 +1,6 @@
 use Rattle.std.proofs.Common.{get_or, refl}
 use Rattle.std.specs.Prelude.{slice_index}
-use Rattle.frame_rows.proofs.LoopLaws.{mapped_next}
+use Rattle.letter_acts.proofs.FrameRows.LoopLaws.{mapped_next}
 use Rattle.path_rows.proofs.versions.picked.Goals as goal
 
 pub loop-column-preserved : goal.loop-column-preserved

@@ -1,6 +1,6 @@
 use Rattle.std.proofs.Common.{ℕ, take}
 use Rattle.nwa_base.specs.Members.{Member}
-use Rattle.proof_build.specs.Needs.{IsAmong}
+use Rattle.proof_build.specs.Ties.Needs.{IsAmong}
 use Rattle.proof_build.proofs.needs.back_sources.Given as goal
 
 abbrev pub invariant-loop-exit : goal.invariant-loop-exit

@@ -2,8 +2,8 @@ use Rattle.std.proofs.Common.{ℕ, List, subst}
 use Rattle.std.proofs.lemmas.List.{take_all}
 use Rattle.nwa_base.specs.declared.letters.Letter.{Letter}
 use Rattle.nwa_base.specs.declared.letters.Kind.TheVariants.{Inside}
-use Rattle.proof_unwind.specs.Spots.{nodes_of}
-use Rattle.proof_build.specs.Needs.{NotesBackSteps}
+use Rattle.proof_build.specs.ProofUnwind.Spots.{nodes_of}
+use Rattle.proof_build.specs.Ties.Needs.{NotesBackSteps}
 use Rattle.proof_build.proofs.NeedLaws.{back_steps_none, back_steps_more}
 use Rattle.proof_build.proofs.needs.note_backs.Goals as goal
 

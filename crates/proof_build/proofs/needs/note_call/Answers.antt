@@ -1,7 +1,7 @@
 use Rattle.std.proofs.Common.{ℕ, ◌+◌, List, take, sym, subst}
 use Rattle.std.proofs.lemmas.List.{take_all}
 use Rattle.proof_names.specs.declared.outlines.Listed.{Listed}
-use Rattle.proof_build.specs.Needs.{call_numbers, NotesAll}
+use Rattle.proof_build.specs.Ties.Needs.{call_numbers, NotesAll}
 use Rattle.proof_build.proofs.NeedLaws.{some_of, none_of, noted_none, noted_more, noted_still}
 use Rattle.proof_build.proofs.needs.note_call.Goals as goal
 use Rattle.proof_build.proofs.needs.note_call.Goals.{in-Some+in_ok-insert, in_default}

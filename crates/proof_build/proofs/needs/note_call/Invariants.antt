@@ -1,5 +1,5 @@
 use Rattle.std.proofs.Common.{take}
-use Rattle.proof_build.specs.Needs.{call_numbers, NotesAll}
+use Rattle.proof_build.specs.Ties.Needs.{call_numbers, NotesAll}
 use Rattle.proof_build.proofs.needs.note_call.Given as goal
 
 abbrev pub invariant-loop-target : goal.invariant-loop-target

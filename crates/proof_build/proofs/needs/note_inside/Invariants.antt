@@ -1,5 +1,5 @@
 use Rattle.std.proofs.Common.{take}
-use Rattle.proof_build.specs.Needs.{inside_numbers, NotesAll}
+use Rattle.proof_build.specs.Ties.Needs.{inside_numbers, NotesAll}
 use Rattle.proof_build.proofs.needs.note_inside.Given as goal
 
 abbrev pub invariant-loop-target : goal.invariant-loop-target

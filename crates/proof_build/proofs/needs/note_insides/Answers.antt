@@ -2,8 +2,8 @@ use Rattle.std.proofs.Common.{ℕ, List, subst}
 use Rattle.std.proofs.lemmas.List.{take_all}
 use Rattle.nwa_base.specs.declared.letters.Letter.{Letter}
 use Rattle.nwa_base.specs.declared.letters.Kind.TheVariants.{Inside}
-use Rattle.proof_unwind.specs.Spots.{nodes_of}
-use Rattle.proof_build.specs.Needs.{inside_numbers, NotesSteps}
+use Rattle.proof_build.specs.ProofUnwind.Spots.{nodes_of}
+use Rattle.proof_build.specs.Ties.Needs.{inside_numbers, NotesSteps}
 use Rattle.proof_build.proofs.NeedLaws.{steps_none, steps_more}
 use Rattle.proof_build.proofs.needs.note_insides.Goals as goal
 

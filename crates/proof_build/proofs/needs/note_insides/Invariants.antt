@@ -1,6 +1,6 @@
 use Rattle.std.proofs.Common.{take}
-use Rattle.proof_unwind.specs.Spots.{nodes_of}
-use Rattle.proof_build.specs.Needs.{inside_numbers, NotesSteps}
+use Rattle.proof_build.specs.ProofUnwind.Spots.{nodes_of}
+use Rattle.proof_build.specs.Ties.Needs.{inside_numbers, NotesSteps}
 use Rattle.proof_build.proofs.needs.note_insides.Given as goal
 
 abbrev pub invariant-loop-step : goal.invariant-loop-step

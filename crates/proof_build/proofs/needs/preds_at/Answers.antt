@@ -1,5 +1,5 @@
 use Rattle.std.proofs.Common.{◌∙◌, sym}
-use Rattle.proof_unwind.specs.Spots.{plain, nodes_of}
+use Rattle.proof_build.specs.ProofUnwind.Spots.{plain, nodes_of}
 use Rattle.proof_build.proofs.NeedLaws.{preds_there, no_preds}
 use Rattle.proof_build.proofs.needs.preds_at.Goals as goal
 

@@ -1,5 +1,5 @@
 use Rattle.std.proofs.Common.{take}
-use Rattle.proof_spell.specs.Correspond.{Correspond}
+use Rattle.proof_names.specs.ProofSpell.Correspond.{Correspond}
 use Rattle.proof_build.proofs.NumberLaws.{HasItsNumber}
 use Rattle.proof_build.proofs.numbers.numbers_of.Given as goal
 

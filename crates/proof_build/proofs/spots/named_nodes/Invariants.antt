@@ -1,7 +1,7 @@
 use Rattle.std.proofs.Common.{◌≡◌, take}
 use Rattle.std.specs.Prelude.{map}
 use Rattle.proof_names.specs.Outlines.{node}
-use Rattle.proof_unwind.specs.Spots.{plain}
+use Rattle.proof_build.specs.ProofUnwind.Spots.{plain}
 use Rattle.proof_build.proofs.spots.named_nodes.Given as goal
 
 abbrev pub invariant-loop-spot : goal.invariant-loop-spot

@@ -1,9 +1,9 @@
 use Rattle.std.proofs.Common.{List, [], Bor, map, take, sym, subst}
 use Rattle.triple_rows.specs.Proofs.{PlainProof}
 use Rattle.itp_automaton.specs.Certified.{Certificate}
-use Rattle.proof_spell.specs.declared.drafts.Shown.{Shown}
-use Rattle.proof_spell.specs.Drafts.{plain}
-use Rattle.proof_build.specs.Listing.{Shows, AreTriplesOf, AreNumbersOf}
+use Rattle.proof_names.specs.declared.proof_spell.drafts.Shown.{Shown}
+use Rattle.proof_names.specs.ProofSpell.Drafts.{plain}
+use Rattle.proof_build.specs.Ties.Listing.{Shows, AreTriplesOf, AreNumbersOf}
 use Rattle.proof_build.proofs.ListLaws.{images_next, images_end}
 use Rattle.proof_build.proofs.TripleLaws.{certificate_shown, no_numbers, no_triples, needed_once}
 use Rattle.proof_build.proofs.triples.triples_of.Goals as goal

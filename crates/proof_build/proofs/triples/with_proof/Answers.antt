@@ -2,8 +2,8 @@ use Rattle.std.proofs.Common.{◌∙◌, [], ◌∷◌, Option, ap, subst}
 use Rattle.std.specs.Prelude.{map}
 use Rattle.triple_rows.specs.declared.triples.Triple.{Triple}
 use Rattle.proof_names.specs.declared.outlines.Listed.{Listed}
-use Rattle.proof_spell.specs.Drafts.{plain}
-use Rattle.proof_build.specs.Listing.{AreItsNumbers, IsListedAs}
+use Rattle.proof_names.specs.ProofSpell.Drafts.{plain}
+use Rattle.proof_build.specs.Ties.Listing.{AreItsNumbers, IsListedAs}
 use Rattle.proof_build.proofs.ListLaws.{map_joined}
 use Rattle.proof_build.proofs.TripleLaws.{shows_one, shows_kept, not_first, numbers_more}
 use Rattle.proof_build.proofs.triples.with_proof.Goals as goal

@@ -3,8 +3,8 @@ use Rattle.std.specs.Prelude.{map}
 use Rattle.std.proofs.lemmas.List.{take_all}
 use Rattle.triple_rows.specs.Proofs.{PlainProof}
 use Rattle.itp_automaton.proofs.StateLaws.{take_next}
-use Rattle.proof_spell.specs.Drafts.{plain}
-use Rattle.proof_build.specs.Listing.{Shows}
+use Rattle.proof_names.specs.ProofSpell.Drafts.{plain}
+use Rattle.proof_build.specs.Ties.Listing.{Shows}
 use Rattle.proof_build.proofs.TripleLaws.{shows_none, shows_joined}
 use Rattle.proof_build.proofs.triples.with_proofs.Goals as goal
 

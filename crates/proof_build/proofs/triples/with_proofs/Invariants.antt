@@ -1,7 +1,7 @@
 use Rattle.std.proofs.Common.{take}
 use Rattle.std.specs.Prelude.{map}
-use Rattle.proof_spell.specs.Drafts.{plain}
-use Rattle.proof_build.specs.Listing.{Shows, AreNumbersOf}
+use Rattle.proof_names.specs.ProofSpell.Drafts.{plain}
+use Rattle.proof_build.specs.Ties.Listing.{Shows, AreNumbersOf}
 use Rattle.proof_build.proofs.triples.with_proofs.Given as goal
 
 abbrev pub invariant-loop-proof : goal.invariant-loop-proof

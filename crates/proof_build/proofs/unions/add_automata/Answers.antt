@@ -3,7 +3,7 @@ use Rattle.nwa_base.specs.Automata.{Automaton}
 use Rattle.triple_rows.specs.declared.triples.Scoped.{Scoped}
 use Rattle.itp_automaton.specs.Certified.{Certificate}
 use Rattle.proof_build.specs.Numbering.{number_at, AreNumbers}
-use Rattle.proof_build.specs.Unions.{with_edges, IsUnionOf}
+use Rattle.proof_build.specs.Ties.Unions.{with_edges, IsUnionOf}
 use Rattle.proof_build.proofs.ListLaws.{images_next, images_end}
 use Rattle.proof_build.proofs.UnionLaws.{union_more}
 use Rattle.proof_build.proofs.unions.add_automata.Goals as goal

@@ -1,6 +1,6 @@
 use Rattle.std.proofs.Common.{◌≡◌, ◌+◌, take, length}
 use Rattle.std.specs.Prelude.{map}
-use Rattle.proof_build.specs.Unions.{IsUnionOf}
+use Rattle.proof_build.specs.Ties.Unions.{IsUnionOf}
 use Rattle.proof_build.proofs.unions.add_automata.Given as goal
 
 abbrev pub invariant-loop-automaton : goal.invariant-loop-automaton

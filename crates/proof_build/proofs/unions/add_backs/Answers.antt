@@ -1,6 +1,6 @@
 use Rattle.nwa_base.specs.declared.letters.Kind.TheVariants.{Inside}
 use Rattle.proof_build.specs.Numbering.{number_at}
-use Rattle.proof_build.specs.Unions.{numbered_back}
+use Rattle.proof_build.specs.Ties.Unions.{numbered_back}
 use Rattle.proof_build.proofs.EdgeLaws.{back_added, back_passed}
 use Rattle.proof_build.proofs.unions.add_backs.Goals as goal
 use Rattle.proof_build.proofs.unions.add_backs.Goals.{in-Some+in_ok-added, in_default}

@@ -1,6 +1,6 @@
 use Rattle.nwa_base.specs.declared.letters.Kind.TheVariants.{Inside}
 use Rattle.proof_build.specs.Numbering.{number_at}
-use Rattle.proof_build.specs.Unions.{numbered}
+use Rattle.proof_build.specs.Ties.Unions.{numbered}
 use Rattle.proof_build.proofs.EdgeLaws.{call_added, call_passed}
 use Rattle.proof_build.proofs.unions.add_calls.Goals as goal
 use Rattle.proof_build.proofs.unions.add_calls.Goals.{in-Some+in_ok-added, in_default}

@@ -1,7 +1,7 @@
 use Rattle.std.proofs.Common.{◌≡◌, ◌++◌, take}
 use Rattle.std.specs.List.{filter_map}
 use Rattle.proof_build.specs.Numbering.{number_at}
-use Rattle.proof_build.specs.Unions.{numbered}
+use Rattle.proof_build.specs.Ties.Unions.{numbered}
 use Rattle.proof_build.proofs.unions.add_insides.Given as goal
 
 abbrev pub invariant-loop-edge : goal.invariant-loop-edge

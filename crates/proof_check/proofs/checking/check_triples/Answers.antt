@@ -6,7 +6,7 @@ use Rattle.proof_names.specs.Items.{first_triple}
 use Rattle.proof_names.specs.Outlines.{sketch}
 use Rattle.proof_names.proofs.OutlineLaws.{counted}
 use Rattle.proof_check.specs.declared.rejects.RejectCause.TheVariants.{BadTriple}
-use Rattle.proof_check.specs.Firsts.{IsFirstOf}
+use Rattle.proof_check.specs.Ties.Firsts.{IsFirstOf}
 use Rattle.proof_check.specs.Proves.{IsShown}
 use Rattle.proof_check.proofs.ListLaws.{member_at}
 use Rattle.proof_check.proofs.OutcomeLaws.{none_fails, refused}

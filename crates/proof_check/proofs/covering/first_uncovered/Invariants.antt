@@ -1,5 +1,5 @@
 use Rattle.std.proofs.Common.{ℕ, ◌<◌}
-use Rattle.proof_check.specs.Firsts.{HasAt}
+use Rattle.proof_check.specs.Ties.Firsts.{HasAt}
 use Rattle.proof_check.specs.Checks.{IsCovered}
 use Rattle.proof_check.proofs.covering.first_uncovered.Given as goal
 

@@ -3,7 +3,7 @@ use Rattle.std.proofs.lemmas.Bool.{false≢true, eqb-true}
 use Rattle.nwa_base.specs.Automata.{Automaton}
 use Rattle.nwa_base.specs.Edges.{backs_leaving}
 use Rattle.proof_names.specs.declared.outlines.NamedStep.TheVariants as steps
-use Rattle.proof_check.specs.Covering.{HasBacksFrom}
+use Rattle.proof_check.specs.Ties.Covering.{HasBacksFrom}
 use Rattle.proof_check.proofs.CoverLaws.{no_backs, answered, nothing_there}
 use Rattle.proof_check.proofs.FirstLaws.{same_default}
 use Rattle.proof_check.proofs.WalkLaws.{all_on, all_to, not_all, here_is}

@@ -1,4 +1,4 @@
-use Rattle.proof_check.specs.Covering.{HasBacksFrom}
+use Rattle.proof_check.specs.Ties.Covering.{HasBacksFrom}
 use Rattle.proof_check.proofs.WalkLaws.{AllTo}
 use Rattle.proof_check.proofs.covering.has_backs.Given as goal
 

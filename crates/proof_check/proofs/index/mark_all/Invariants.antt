@@ -1,6 +1,6 @@
 use Rattle.std.proofs.Common.{take}
 use Rattle.std.specs.HashSet.{contains}
-use Rattle.proof_check.specs.Plans.{MarksAll}
+use Rattle.proof_check.specs.Ties.Plans.{MarksAll}
 use Rattle.proof_check.proofs.EntryLaws.{same_two}
 use Rattle.proof_check.proofs.index.mark_all.Given as goal
 

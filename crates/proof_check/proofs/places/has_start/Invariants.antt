@@ -1,6 +1,6 @@
 use Rattle.std.proofs.Common.{ℕ, ◌<◌, map}
 use Rattle.proof_names.specs.Outlines.{node}
-use Rattle.proof_check.specs.Firsts.{HasAt}
+use Rattle.proof_check.specs.Ties.Firsts.{HasAt}
 use Rattle.proof_check.specs.Proves.{IsStart}
 use Rattle.proof_check.proofs.places.has_start.Given as goal
 

@@ -1,5 +1,5 @@
 use Rattle.std.proofs.Common.{ℕ, ◌<◌}
-use Rattle.proof_check.specs.Firsts.{HasAt}
+use Rattle.proof_check.specs.Ties.Firsts.{HasAt}
 use Rattle.proof_check.specs.Proves.{IsShown}
 use Rattle.proof_check.proofs.refuting.first_bad_triple.Given as goal
 

@@ -1,4 +1,4 @@
-use Rattle.proof_check.specs.Plans.{IsOfNode}
+use Rattle.proof_check.specs.Ties.Plans.{IsOfNode}
 use Rattle.proof_check.proofs.WalkLaws.{NoneTo}
 use Rattle.proof_check.proofs.sound.back_gives.Given as goal
 

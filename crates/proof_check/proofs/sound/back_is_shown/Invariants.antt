@@ -1,4 +1,4 @@
-use Rattle.proof_check.specs.Sound.{BackGives}
+use Rattle.proof_check.specs.Ties.Sound.{BackGives}
 use Rattle.proof_check.proofs.WalkLaws.{AllTo}
 use Rattle.proof_check.proofs.sound.back_is_shown.Given as goal
 

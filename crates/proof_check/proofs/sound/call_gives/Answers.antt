@@ -1,6 +1,6 @@
 use Rattle.std.proofs.Common.{◌∙◌, sym, refl, get_or}
 use Rattle.std.proofs.lemmas.Bool.{false≢true}
-use Rattle.proof_check.specs.Plans.{IsOfNode}
+use Rattle.proof_check.specs.Ties.Plans.{IsOfNode}
 use Rattle.proof_check.proofs.FirstLaws.{same_default}
 use Rattle.proof_check.proofs.WalkLaws.{here_is, none_on, none_to}
 use Rattle.proof_check.proofs.sound.call_gives.Goals as goal

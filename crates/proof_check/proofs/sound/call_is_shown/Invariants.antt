@@ -1,4 +1,4 @@
-use Rattle.proof_check.specs.Sound.{CallGives}
+use Rattle.proof_check.specs.Ties.Sound.{CallGives}
 use Rattle.proof_check.proofs.WalkLaws.{AllTo}
 use Rattle.proof_check.proofs.sound.call_is_shown.Given as goal
 

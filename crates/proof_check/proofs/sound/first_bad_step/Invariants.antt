@@ -1,5 +1,5 @@
 use Rattle.std.proofs.Common.{ℕ, ◌<◌}
-use Rattle.proof_check.specs.Firsts.{HasAt}
+use Rattle.proof_check.specs.Ties.Firsts.{HasAt}
 use Rattle.proof_check.specs.Steps.{IsSound}
 use Rattle.proof_check.proofs.sound.first_bad_step.Given as goal
 

@@ -1,6 +1,6 @@
 use Rattle.std.proofs.Common.{◌∙◌, sym, get_or}
 use Rattle.std.proofs.lemmas.Bool.{false≢true}
-use Rattle.proof_check.specs.Sound.{InsideGives}
+use Rattle.proof_check.specs.Ties.Sound.{InsideGives}
 use Rattle.proof_check.proofs.FirstLaws.{same_default}
 use Rattle.proof_check.proofs.WalkLaws.{all_on, not_all}
 use Rattle.proof_check.proofs.sound.inside_is_shown.Goals as goal

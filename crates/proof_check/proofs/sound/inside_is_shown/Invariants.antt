@@ -1,4 +1,4 @@
-use Rattle.proof_check.specs.Sound.{InsideGives}
+use Rattle.proof_check.specs.Ties.Sound.{InsideGives}
 use Rattle.proof_check.proofs.WalkLaws.{AllTo}
 use Rattle.proof_check.proofs.sound.inside_is_shown.Given as goal
 

@@ -1,7 +1,7 @@
 use Rattle.std.proofs.Common.{map, vec_len}
 use Rattle.proof_form.specs.Predicates.{plain_predicate_node}
 use Rattle.proof_form.specs.PredicateReading.{with_parts}
-use Rattle.proof_form.specs.TreeViews.{part, built}
+use Rattle.proof_form.specs.Ties.TreeViews.{part, built}
 use Rattle.proof_form.proofs.BuiltLaws.{Reached}
 use Rattle.proof_form.proofs.predicates.nodes_of.Given as goal
 

@@ -3,7 +3,7 @@ use Rattle.std.proofs.lemmas.Result.{err_from_is_err_and}
 use Rattle.proof_form.specs.Reading.{more_follow}
 use Rattle.proof_form.specs.Predicates.{plain_predicate_node}
 use Rattle.proof_form.specs.PredicateReading.{piece_at, pieces_of}
-use Rattle.proof_form.specs.TreeViews.{part}
+use Rattle.proof_form.specs.Ties.TreeViews.{part}
 use Rattle.proof_form.proofs.AfterLaws.{refused}
 use Rattle.proof_form.proofs.ManyLaws.{begins, stops, ends, fails, goes_on, pushed, none_pushed, all_read_none, all_read_some, none_read}
 use Rattle.proof_form.proofs.predicates.pieces_of.Goals as goal

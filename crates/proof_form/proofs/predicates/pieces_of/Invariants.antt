@@ -2,7 +2,7 @@ use Rattle.std.proofs.Common.{◌-◌, length, map}
 use Rattle.proof_form.specs.Reading.{many, more_follow}
 use Rattle.proof_form.specs.Predicates.{plain_predicate_node}
 use Rattle.proof_form.specs.PredicateReading.{piece_at}
-use Rattle.proof_form.specs.TreeViews.{part}
+use Rattle.proof_form.specs.Ties.TreeViews.{part}
 use Rattle.proof_form.proofs.ManyLaws.{Reached}
 use Rattle.proof_form.proofs.predicates.pieces_of.Given as goal
 

@@ -4,7 +4,7 @@ use Rattle.std.proofs.lemmas.Result.{err_from_is_err_and}
 use Rattle.proof_form.specs.Refutations.{plain_refutation_node}
 use Rattle.proof_form.specs.RefutationReading.{with_parts}
 use Rattle.proof_form.specs.TreeReading.{with_part, nodes_of}
-use Rattle.proof_form.specs.TreeViews.{part, built}
+use Rattle.proof_form.specs.Ties.TreeViews.{part, built}
 use Rattle.proof_form.proofs.AfterLaws.{refused}
 use Rattle.proof_form.proofs.BuiltLaws.{begins, goes_on, fails, ends, left_open}
 use Rattle.proof_form.proofs.refutations.nodes_of.Goals as goal

@@ -1,7 +1,7 @@
 use Rattle.std.proofs.Common.{map, vec_len}
 use Rattle.proof_form.specs.Refutations.{plain_refutation_node}
 use Rattle.proof_form.specs.RefutationReading.{with_parts}
-use Rattle.proof_form.specs.TreeViews.{part, built}
+use Rattle.proof_form.specs.Ties.TreeViews.{part, built}
 use Rattle.proof_form.proofs.BuiltLaws.{Reached}
 use Rattle.proof_form.proofs.refutations.nodes_of.Given as goal
 

@@ -1,6 +1,6 @@
 use Rattle.std.proofs.Common.{◌≡◌, ◌∙◌, ℕ, List, ap, map}
-use Rattle.proof_reuse.specs.Choices.{numbers_in, pair_choices, begun_pairs}
-use Rattle.proof_reuse.specs.Sets.{InsertsAll}
+use Rattle.proof_reuse.specs.Ties.Choices.{numbers_in, pair_choices, begun_pairs}
+use Rattle.proof_reuse.specs.Ties.Sets.{InsertsAll}
 use Rattle.std.proofs.Common.{subst}
 use Rattle.proof_reuse.proofs.SetLaws.{same_all}
 use Rattle.proof_reuse.proofs.choosing.call_pair_choices.Goals as goal

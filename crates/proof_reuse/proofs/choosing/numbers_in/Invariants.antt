@@ -1,5 +1,5 @@
 use Rattle.std.proofs.Common.{◌≡◌, take}
-use Rattle.proof_reuse.specs.Choices.{numbers_in}
+use Rattle.proof_reuse.specs.Ties.Choices.{numbers_in}
 use Rattle.proof_reuse.proofs.choosing.numbers_in.Given as goal
 
 abbrev pub invariant-loop-place : goal.invariant-loop-place

@@ -1,6 +1,6 @@
 use Rattle.std.proofs.Common.{take}
 use Rattle.nwa_base.specs.Members.{SameMembers}
-use Rattle.proof_reuse.specs.Choices.{pair_choices}
+use Rattle.proof_reuse.specs.Ties.Choices.{pair_choices}
 use Rattle.proof_reuse.proofs.choosing.pair_choices.Given as goal
 
 abbrev pub invariant-loop-pair : goal.invariant-loop-pair

@@ -1,6 +1,6 @@
 use Rattle.std.proofs.Common.{◌≡◌, ◌∙◌, ℕ, List, [], ◌∷◌, get_or, sym, ap, subst}
-use Rattle.proof_reuse.specs.Choices.{numbers_in, three_sources, three_fits}
-use Rattle.proof_reuse.specs.Sets.{InsertsAll}
+use Rattle.proof_reuse.specs.Ties.Choices.{numbers_in, three_sources, three_fits}
+use Rattle.proof_reuse.specs.Ties.Sets.{InsertsAll}
 use Rattle.proof_reuse.proofs.SetLaws.{got_any, chosen_none, chosen_puts, chosen_skips, chosen_all}
 use Rattle.proof_reuse.proofs.choosing.three_choices.Goals as goal
 use Rattle.proof_reuse.proofs.choosing.three_choices.Goals.{then-three_fits+in_ok-more+in_ok-add_threes, else-three_fits}

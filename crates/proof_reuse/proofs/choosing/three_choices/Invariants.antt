@@ -1,6 +1,6 @@
 use Rattle.std.proofs.Common.{take}
 use Rattle.nwa_base.specs.Members.{SameMembers}
-use Rattle.proof_reuse.specs.Choices.{three_choices}
+use Rattle.proof_reuse.specs.Ties.Choices.{three_choices}
 use Rattle.proof_reuse.proofs.choosing.three_choices.Given as goal
 
 abbrev pub invariant-loop-three : goal.invariant-loop-three

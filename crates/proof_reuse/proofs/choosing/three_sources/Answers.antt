@@ -1,7 +1,7 @@
 use Rattle.std.proofs.Common.{◌∙◌, ℕ, List, map, ap}
 use Rattle.std.specs.List.{flat_map}
 use Rattle.std.proofs.lemmas.Result.{IfOk-weaker}
-use Rattle.proof_reuse.specs.Choices.{sources}
+use Rattle.proof_reuse.specs.Ties.Choices.{sources}
 use Rattle.proof_reuse.proofs.choosing.three_sources.Goals as goal
 
 pub returns : goal.returns

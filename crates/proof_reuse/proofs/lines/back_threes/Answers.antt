@@ -1,6 +1,6 @@
 use Rattle.std.proofs.Common.{arith}
 use Rattle.proof_form.specs.Lines as form
-use Rattle.proof_reuse.specs.Numbers.{back_three}
+use Rattle.proof_reuse.specs.Ties.Numbers.{back_three}
 use Rattle.proof_reuse.proofs.SetLaws.{same_none, collected_puts, collected_skips, collected_all}
 use Rattle.proof_reuse.proofs.lines.back_threes.Goals as goal
 use Rattle.proof_reuse.proofs.lines.back_threes.Goals.{in-Some+in_ok-add_three, in_default}

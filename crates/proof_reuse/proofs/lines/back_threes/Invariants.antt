@@ -2,7 +2,7 @@ use Rattle.std.proofs.Common.{map, take}
 use Rattle.std.specs.List.{filter_map}
 use Rattle.nwa_base.specs.Members.{SameMembers}
 use Rattle.proof_form.specs.Lines as form
-use Rattle.proof_reuse.specs.Numbers.{back_three}
+use Rattle.proof_reuse.specs.Ties.Numbers.{back_three}
 use Rattle.proof_reuse.proofs.lines.back_threes.Given as goal
 
 abbrev pub invariant-loop-line : goal.invariant-loop-line

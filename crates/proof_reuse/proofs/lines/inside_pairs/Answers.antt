@@ -1,6 +1,6 @@
 use Rattle.std.proofs.Common.{arith}
 use Rattle.proof_form.specs.Lines as form
-use Rattle.proof_reuse.specs.Numbers.{inside_pair}
+use Rattle.proof_reuse.specs.Ties.Numbers.{inside_pair}
 use Rattle.proof_reuse.proofs.SetLaws.{same_none, collected_puts, collected_skips, collected_all}
 use Rattle.proof_reuse.proofs.lines.inside_pairs.Goals as goal
 use Rattle.proof_reuse.proofs.lines.inside_pairs.Goals.{in-Some+in_ok-add_pair, in_default}

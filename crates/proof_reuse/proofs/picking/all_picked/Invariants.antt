@@ -1,5 +1,5 @@
 use Rattle.std.proofs.Common.{take}
-use Rattle.proof_reuse.specs.Choices.{ArePicked}
+use Rattle.proof_reuse.specs.Ties.Choices.{ArePicked}
 use Rattle.proof_reuse.proofs.picking.all_picked.Given as goal
 
 abbrev pub invariant-loop-numbers : goal.invariant-loop-numbers

@@ -2,8 +2,8 @@ use Rattle.std.proofs.Common.{List, subst}
 use Rattle.std.proofs.lemmas.Result.{IfOk-weaker}
 use Rattle.triple_rows.specs.declared.triples.Scoped.{Scoped}
 use Rattle.proof_names.specs.declared.outlines.Listed.{Listed}
-use Rattle.proof_reuse.specs.Choices.{ArePicked}
-use Rattle.proof_reuse.specs.Views.{taken}
+use Rattle.proof_reuse.specs.Ties.Choices.{ArePicked}
+use Rattle.proof_reuse.specs.Ties.Views.{taken}
 use Rattle.proof_reuse.proofs.PickLaws.{picked_agree}
 use Rattle.proof_reuse.proofs.ReuseLaws.{picked_candidates}
 use Rattle.proof_reuse.proofs.picking.candidates_by.Goals as goal

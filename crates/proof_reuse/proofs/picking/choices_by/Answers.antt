@@ -2,7 +2,7 @@ use Rattle.std.proofs.Common.{◌∙◌, Some, ap}
 use Rattle.std.proofs.lemmas.Result.{IfOk-weaker}
 use Rattle.letter_acts.specs.declared.acts.Act.{Act}
 use Rattle.letter_acts.specs.Acts.{plain_act, inside_act, call_act, back_act}
-use Rattle.proof_reuse.specs.Views.{taken}
+use Rattle.proof_reuse.specs.Ties.Views.{taken}
 use Rattle.proof_reuse.proofs.PickLaws.{choices_at}
 use Rattle.proof_reuse.proofs.picking.choices_by.Goals as goal
 

@@ -3,7 +3,7 @@ use Rattle.std.specs.Prelude.{ℕ}
 use Rattle.std.proofs.lemmas.Result.{IfOk-weaker}
 use Rattle.nwa_base.specs.Members.{SameMembers}
 use Rattle.triple_rows.specs.declared.triples.Scoped.{Scoped}
-use Rattle.proof_reuse.specs.Choices.{inside_listed, pair_choices}
+use Rattle.proof_reuse.specs.Ties.Choices.{inside_listed, pair_choices}
 use Rattle.proof_reuse.proofs.PickLaws.{mapped_same}
 use Rattle.proof_reuse.proofs.picking.inside_choices.Goals as goal
 

@@ -3,8 +3,8 @@ use Rattle.std.specs.Prelude.{ℕ, slice_get}
 use Rattle.std.proofs.lemmas.Result.{IfOk-weaker}
 use Rattle.nwa_base.specs.Members.{SameMembers}
 use Rattle.triple_rows.specs.declared.triples.Scoped.{Scoped}
-use Rattle.proof_reuse.specs.Choices.{back_listed, three_choices, return_choices}
-use Rattle.proof_reuse.specs.Views.{taken}
+use Rattle.proof_reuse.specs.Ties.Choices.{back_listed, three_choices, return_choices}
+use Rattle.proof_reuse.specs.Ties.Views.{taken}
 use Rattle.proof_reuse.proofs.SetLaws.{same_none, same_along}
 use Rattle.proof_reuse.proofs.PickLaws.{mapped_same, none_returned, all_returned}
 use Rattle.proof_reuse.proofs.picking.return_choices.Goals as goal

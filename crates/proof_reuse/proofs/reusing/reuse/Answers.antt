@@ -5,7 +5,7 @@ use Rattle.triple_rows.specs.Proofs.{PlainProof}
 use Rattle.itp_automaton.specs.Certified.{Certificate}
 use Rattle.itp_automaton.specs.Making.{HasStates, HasEdges}
 use Rattle.proof_reuse.specs.Candidates.{IsCandidate}
-use Rattle.proof_reuse.specs.Views.{taken}
+use Rattle.proof_reuse.specs.Ties.Views.{taken}
 use Rattle.proof_reuse.proofs.ReuseLaws.{states_found, candidates_named, settled_edges, not_missing}
 use Rattle.proof_reuse.proofs.reusing.reuse.Goals as goal
 

@@ -1,4 +1,4 @@
-use Rattle.proof_reuse.specs.Sets.{InsertsAll}
+use Rattle.proof_reuse.specs.Ties.Sets.{InsertsAll}
 use Rattle.proof_reuse.proofs.sets.add_threes.Given as goal
 
 abbrev pub invariant-loop-three : goal.invariant-loop-three

@@ -6,7 +6,7 @@ use Rattle.letter_acts.specs.Acts.{PlainAct, plain_act, plain_acts}
 use Rattle.letter_acts.specs.Invariant.{alphabet_of}
 use Rattle.triple_rows.specs.declared.triples.Triple.{Triple}
 use Rattle.triple_rows.specs.Triples.{Agrees}
-use Rattle.proof_reuse.specs.Settling.{IsSettling}
+use Rattle.proof_reuse.specs.Ties.Settling.{IsSettling}
 use Rattle.proof_reuse.proofs.SettlingLaws.{none_settles}
 use Rattle.proof_reuse.proofs.settling.settle_all.Goals as goal
 

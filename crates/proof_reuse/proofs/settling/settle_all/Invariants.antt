@@ -2,9 +2,9 @@ use Rattle.std.specs.List.{AllByRecursion}
 use Rattle.letter_acts.specs.Invariant.{alphabet_of}
 use Rattle.triple_rows.specs.Triples.{Agrees}
 use Rattle.proof_form.specs.Annotations.{Content}
-use Rattle.proof_reuse.specs.Choices.{IsTakenFrom}
-use Rattle.proof_reuse.specs.Settling.{IsSettling}
-use Rattle.proof_reuse.specs.Views.{taken}
+use Rattle.proof_reuse.specs.Ties.Choices.{IsTakenFrom}
+use Rattle.proof_reuse.specs.Ties.Settling.{IsSettling}
+use Rattle.proof_reuse.specs.Ties.Views.{taken}
 use Rattle.proof_reuse.proofs.settling.settle_all.Given as goal
 
 abbrev pub invariant-loop-letter : goal.invariant-loop-letter

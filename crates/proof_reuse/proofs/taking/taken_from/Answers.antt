@@ -1,6 +1,6 @@
 use Rattle.std.proofs.Common.{◌≡◌, List, subst}
 use Rattle.proof_form.specs.Lines as form
-use Rattle.proof_reuse.specs.Numbers.{AreFound, inside_pair, call_pair, back_three}
+use Rattle.proof_reuse.specs.Ties.Numbers.{AreFound, inside_pair, call_pair, back_three}
 use Rattle.proof_reuse.proofs.SetLaws.{collected_same}
 use Rattle.proof_reuse.proofs.taking.taken_from.Goals as goal
 

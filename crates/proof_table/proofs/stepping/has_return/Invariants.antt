@@ -1,5 +1,5 @@
 use Rattle.std.proofs.Common.{◌≡◌, ◌≤◌, drop}
-use Rattle.nested_predicates.specs.Positions.{has_return}
+use Rattle.nested_itp.specs.NestedPredicates.Positions.{has_return}
 use Rattle.proof_table.proofs.stepping.has_return.Given as goal
 
 abbrev pub invariant-loop-letter : goal.invariant-loop-letter

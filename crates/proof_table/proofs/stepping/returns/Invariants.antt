@@ -1,5 +1,5 @@
 use Rattle.std.proofs.Common.{◌≡◌, ◌++◌, drop}
-use Rattle.nested_predicates.specs.Walking.{return_tests}
+use Rattle.nested_itp.specs.NestedPredicates.Walking.{return_tests}
 use Rattle.proof_table.proofs.stepping.returns.Given as goal
 
 abbrev pub invariant-loop-i : goal.invariant-loop-i

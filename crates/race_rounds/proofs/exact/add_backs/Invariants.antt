@@ -1,5 +1,5 @@
 use Rattle.std.proofs.Common.{◌≡◌, ◌++◌, take}
-use Rattle.race_rounds.specs.Exact.{exact_backs}
+use Rattle.race_rounds.specs.Ties.Exact.{exact_backs}
 use Rattle.race_rounds.proofs.exact.add_backs.Given as goal
 
 abbrev pub invariant-loop-from : goal.invariant-loop-from

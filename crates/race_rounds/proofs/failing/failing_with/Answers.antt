@@ -5,7 +5,7 @@ use Rattle.lin_rows.specs.Rows.{LinearRow, Holds}
 use Rattle.lin_rows.specs.Points.{point_of}
 use Rattle.letter_acts.specs.Feasible.{IsFeasible}
 use Rattle.letter_acts.specs.Invariant.{Graph, alphabet_of}
-use Rattle.typing_rules.specs.TypedParts.{typed_program}
+use Rattle.typed_tree.specs.TypingRules.TypedParts.{typed_program}
 use Rattle.path_rows.specs.Paths.{path_of}
 use Rattle.trace_replay.specs.FailureText.{numbers}
 use Rattle.race_rounds.specs.Ends.{FailsAfter}

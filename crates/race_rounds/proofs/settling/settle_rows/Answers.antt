@@ -3,7 +3,7 @@ use Rattle.std.specs.Prelude.{Ok, IfSome}
 use Rattle.std.specs.List.{AllByRecursion}
 use Rattle.lin_rows.specs.Rows.{LinearRow, Holds}
 use Rattle.lin_rows.specs.Points.{point_of}
-use Rattle.typing_rules.specs.TypedParts.{typed_program}
+use Rattle.typed_tree.specs.TypingRules.TypedParts.{typed_program}
 use Rattle.int_decide.specs.declared.types.Answer.{Answer}
 use Rattle.path_decide.specs.Decided.{IsAnswer}
 use Rattle.race_core.specs.declared.ends.End.{End}

@@ -1,6 +1,6 @@
 use Rattle.std.proofs.Common.{◌≡◌, ℕ, ℤ, List, Result, Ok, Err, sym, subst}
 use Rattle.std.specs.Prelude.{MatchResult}
-use Rattle.typing_rules.specs.TypedParts.{typed_program}
+use Rattle.typed_tree.specs.TypingRules.TypedParts.{typed_program}
 use Rattle.trace_replay.specs.declared.causes.ReplayCause.{ReplayCause}
 use Rattle.trace_replay.specs.declared.causes.ReplayFault.{ReplayFault}
 use Rattle.trace_replay.specs.declared.causes.ReplayFault.TheVariants.{At, Memory}

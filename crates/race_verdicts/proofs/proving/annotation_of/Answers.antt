@@ -1,5 +1,5 @@
 use Rattle.std.proofs.Common.{◌∙◌, ap, map}
-use Rattle.typing_rules.specs.TypedParts.{typed_program}
+use Rattle.typed_tree.specs.TypingRules.TypedParts.{typed_program}
 use Rattle.race_verdicts.proofs.NoneLeft.{evidence, certified, covered}
 use Rattle.race_verdicts.proofs.StartBodies.{starts}
 use Rattle.race_verdicts.proofs.proving.annotation_of.Goals as goal

@@ -1,7 +1,7 @@
 use Rattle.std.proofs.Common.{ℕ, ℤ, List, Some, sym, ap, subst, ◌∙◌}
 use Rattle.std.specs.List.{AllByRecursion}
 use Rattle.math_facts.specs.Fits.{Fits}
-use Rattle.typing_rules.specs.TypedParts.{typed_program}
+use Rattle.typed_tree.specs.TypingRules.TypedParts.{typed_program}
 use Rattle.trace_replay.specs.Replays.{Replays}
 use Rattle.race_core.specs.declared.ends.End.{End}
 use Rattle.race_verdicts.specs.Verdicts.{IsFailureBy}

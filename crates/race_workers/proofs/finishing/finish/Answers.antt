@@ -1,5 +1,5 @@
 use Rattle.std.proofs.Common.{ap}
-use Rattle.typing_rules.specs.TypedParts.{typed_program}
+use Rattle.typed_tree.specs.TypingRules.TypedParts.{typed_program}
 use Rattle.itp_automaton.specs.Certified.{Certificate}
 use Rattle.version_cell.specs.Passes.{Known}
 use Rattle.race_workers.proofs.Parts.{ends, shows, ended_by_ending, ended_by_name}

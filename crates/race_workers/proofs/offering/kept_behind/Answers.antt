@@ -1,7 +1,7 @@
 use Rattle.std.proofs.Common.{sym, subst}
 use Rattle.nwa_base.specs.Automata.{Automaton}
 use Rattle.nwa_reduce.specs.Lean.{IsLean}
-use Rattle.kept_words.specs.Without.{IsWithout}
+use Rattle.race_workers.specs.KeptWords.Without.{IsWithout}
 use Rattle.race_rounds.specs.Rounds.{automaton_in}
 use Rattle.race_workers.proofs.offering.kept_behind.Goals as goal
 

@@ -1,5 +1,5 @@
 use Rattle.std.proofs.Common.{arith}
-use Rattle.typing_rules.specs.TypedParts.{typed_program}
+use Rattle.typed_tree.specs.TypingRules.TypedParts.{typed_program}
 use Rattle.race_workers.proofs.Parts.{owns, shows}
 use Rattle.race_workers.proofs.Turns.{added, refused}
 use Rattle.race_workers.proofs.offering.publish.Goals as goal

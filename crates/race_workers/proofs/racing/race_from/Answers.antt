@@ -1,6 +1,6 @@
 use Rattle.std.proofs.Common.{◌≡◌, ◌∙◌, ◌+◌, ap, arith, rules}
 use Rattle.letter_acts.specs.Invariant.{Graph}
-use Rattle.typing_rules.specs.TypedParts.{typed_program}
+use Rattle.typed_tree.specs.TypingRules.TypedParts.{typed_program}
 use Rattle.race_workers.proofs.Givens.{opened_shares, only_words, only_given, closes}
 use Rattle.race_workers.proofs.racing.race_from.Goals as goal
 

@@ -1,5 +1,5 @@
 use Rattle.std.proofs.Common.{length, arith}
-use Rattle.typing_rules.specs.TypedParts.{typed_program}
+use Rattle.typed_tree.specs.TypingRules.TypedParts.{typed_program}
 use Rattle.race_workers.proofs.Parts.{with_shares}
 use Rattle.race_workers.proofs.Givens.{has_run}
 use Rattle.race_workers.proofs.racing.run.Goals as goal

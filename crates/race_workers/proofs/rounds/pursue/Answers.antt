@@ -5,9 +5,9 @@ use Rattle.nwa_base.specs.Automata.{Automaton}
 use Rattle.nwa_base.specs.Acceptance.{Accepts}
 use Rattle.race_core.specs.declared.events.Entry.{Entry}
 use Rattle.itp_automaton.specs.Certified.{Certificate}
-use Rattle.typing_rules.specs.TypedParts.{typed_program}
+use Rattle.typed_tree.specs.TypingRules.TypedParts.{typed_program}
 use Rattle.race_rounds.specs.Rounds.{IsOwn}
-use Rattle.race_workers.specs.Parts.{IsStillKept}
+use Rattle.race_workers.specs.Ties.Parts.{IsStillKept}
 use Rattle.race_workers.proofs.Turns.{offered, sought}
 use Rattle.race_workers.proofs.rounds.pursue.Goals as goal
 

@@ -1,7 +1,7 @@
 use Rattle.std.proofs.Common.{rules, subst, Option}
 use Rattle.std.specs.Prelude.{IsSome}
 use Rattle.race_core.specs.declared.ends.EndKind.{EndKind}
-use Rattle.typing_rules.specs.TypedParts.{typed_program}
+use Rattle.typed_tree.specs.TypingRules.TypedParts.{typed_program}
 use Rattle.race_workers.proofs.Parts.{reads, own_shares, with_shares}
 use Rattle.race_workers.proofs.Turns.{over, pursues_before}
 use Rattle.race_workers.proofs.rounds.round.Goals as goal

@@ -4,7 +4,7 @@ use Rattle.nwa_base.specs.Automata.{Automaton}
 use Rattle.nwa_base.specs.Acceptance.{Accepts}
 use Rattle.nwa_emptiness.specs.declared.finding.Found.{Found}
 use Rattle.nwa_emptiness.specs.Found.{IsFound}
-use Rattle.typing_rules.specs.TypedParts.{typed_program}
+use Rattle.typed_tree.specs.TypingRules.TypedParts.{typed_program}
 use Rattle.race_rounds.specs.declared.settling.Settled.{Settled}
 use Rattle.race_rounds.specs.Rounds.{SettlesKept}
 use Rattle.version_cell.proofs.Beginnings.{begins_same}

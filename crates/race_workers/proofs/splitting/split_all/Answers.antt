@@ -2,7 +2,7 @@ use Rattle.std.proofs.Common.{◌≡◌, ◌∙◌, ℕ, List, [], length, ap, s
 use Rattle.std.specs.List.{AllByRecursion}
 use Rattle.itp_automaton.specs.Certified.{Certificate}
 use Rattle.version_cell.specs.Passes.{Known, lessened_pass}
-use Rattle.race_workers.specs.Parts.{IsFresh}
+use Rattle.race_workers.specs.Ties.Parts.{IsFresh}
 use Rattle.race_workers.proofs.Lists.{all_more, popped_length}
 use Rattle.race_workers.proofs.Parts.{fresh_part}
 use Rattle.race_workers.proofs.splitting.split_all.Goals as goal

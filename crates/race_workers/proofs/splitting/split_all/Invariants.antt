@@ -1,7 +1,7 @@
 use Rattle.std.proofs.Common.{◌≡◌, ◌≤◌, ◌+◌, ◌-◌, length}
 use Rattle.std.specs.List.{AllByRecursion}
 use Rattle.version_cell.specs.Passes.{IsPassOf}
-use Rattle.race_workers.specs.Parts.{IsFresh}
+use Rattle.race_workers.specs.Ties.Parts.{IsFresh}
 use Rattle.race_workers.proofs.splitting.split_all.Given as goal
 
 abbrev pub invariant-parts : goal.invariant-parts

@@ -6,12 +6,12 @@ use Rattle.std.proofs.Common.{◌≡◌, ◌+◌, rules, length, arith}
 use Rattle.std.proofs.Crossing as std
 use Rattle.std.specs.Prelude.{IsSome}
 use Rattle.std.specs.contracts.alloc.Global as global
-use Rattle.typing_rules.specs.TypedParts.{typed_program}
+use Rattle.typed_tree.specs.TypingRules.TypedParts.{typed_program}
 use Rattle.letter_acts.proofs.graphs.Icfg.TheSendSync as graph
 use Rattle.itp_automaton.proofs.automata.Certified.TheSendSync as certified
 use Rattle.version_cell.proofs.cells.VersionCell.TheSendSync as cell
 use Rattle.version_cell.proofs.passes.Pass.TheSendSync as pass
-use Rattle.race_workers.specs.Parts.{IsPassAt}
+use Rattle.race_workers.specs.Ties.Parts.{IsPassAt}
 use Rattle.race_rounds.proofs.limits.Limits.TheSendSync as limits
 use Rattle.race_workers.proofs.Crossing.{typed_sync, closure_send}
 use Rattle.race_workers.proofs.Lists.{popped, popped_length}

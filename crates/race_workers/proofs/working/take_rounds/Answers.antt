@@ -1,7 +1,7 @@
 use Rattle.std.proofs.Common.{rules, subst}
-use Rattle.typing_rules.specs.TypedParts.{typed_program}
+use Rattle.typed_tree.specs.TypingRules.TypedParts.{typed_program}
 use Rattle.race_workers.specs.declared.rounds.Turn.{Turn}
-use Rattle.race_workers.specs.Parts.{Pursues}
+use Rattle.race_workers.specs.Ties.Parts.{Pursues}
 use Rattle.race_workers.proofs.Parts.{own_shares, with_shares}
 use Rattle.race_workers.proofs.Turns.{carried_on, ended}
 use Rattle.race_workers.proofs.working.take_rounds.Goals as goal

@@ -1,7 +1,7 @@
 use Rattle.std.specs.Prelude.{IfSome}
-use Rattle.typing_rules.specs.TypedParts.{typed_program}
+use Rattle.typed_tree.specs.TypingRules.TypedParts.{typed_program}
 use Rattle.race_rounds.specs.Rounds.{IsOwn}
-use Rattle.race_workers.specs.Parts.{IsPassAt}
+use Rattle.race_workers.specs.Ties.Parts.{IsPassAt}
 use Rattle.race_workers.proofs.working.take_rounds.Given as goal
 
 abbrev pub invariant-loop : goal.invariant-loop

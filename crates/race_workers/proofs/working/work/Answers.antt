@@ -1,4 +1,4 @@
-use Rattle.typing_rules.specs.TypedParts.{typed_program}
+use Rattle.typed_tree.specs.TypingRules.TypedParts.{typed_program}
 use Rattle.race_workers.proofs.Parts.{own_shares, with_shares}
 use Rattle.race_workers.proofs.working.work.Goals as goal
 

@@ -1,6 +1,6 @@
 use Rattle.std.proofs.Common.{[], ◌∷◌, codes, refl}
 use Rattle.std.proofs.lemmas.Result.{err_from_is_err_and}
-use Rattle.lasso_ranks.specs.Lassos.{plain_lasso}
+use Rattle.rank_lasso.specs.LassoRanks.Lassos.{plain_lasso}
 use Rattle.rank_lasso.specs.Lines.{end_kind, way_kinds, GoesOn}
 use Rattle.rank_lasso.proofs.KindLaws.{fault_in_front, fault_here, fault_behind, fault_at_end, fault_behind_way, lasso_fault_is}
 use Rattle.rank_lasso.proofs.OneText.{lasso_fault_is_memory, lasso_read, lasso_is_read}

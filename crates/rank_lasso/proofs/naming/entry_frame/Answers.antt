@@ -1,7 +1,7 @@
 use Rattle.std.proofs.Common.{sym, subst}
 use Rattle.letter_acts.specs.Frames.{Columns}
-use Rattle.proof_spell.specs.Nodes.{IsReadable}
-use Rattle.proof_spell.proofs.NameLaws.{readable}
+use Rattle.proof_names.specs.ProofSpell.Nodes.{IsReadable}
+use Rattle.proof_names.proofs.ProofSpell.NameLaws.{readable}
 use Rattle.rank_lasso.proofs.naming.entry_frame.Goals as goal
 
 pub returns-clause-readable : goal.returns-clause-readable

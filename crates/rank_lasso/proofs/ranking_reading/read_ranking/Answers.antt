@@ -1,7 +1,7 @@
 use Rattle.std.proofs.lemmas.Result.{err_from_is_err_and}
-use Rattle.lasso_ranks.specs.Lassos.{plain_lasso}
-use Rattle.lasso_ranks.specs.Ranks.{plain_ranking}
-use Rattle.rank_lasso.specs.Forms.{plain_form}
+use Rattle.rank_lasso.specs.LassoRanks.Lassos.{plain_lasso}
+use Rattle.rank_lasso.specs.LassoRanks.Ranks.{plain_ranking}
+use Rattle.rank_lasso.specs.Ties.Forms.{plain_form}
 use Rattle.rank_lasso.proofs.KindLaws.{front_fault_is, ending_fault_is}
 use Rattle.rank_lasso.proofs.NamingLaws.{named_may_be_written}
 use Rattle.rank_lasso.proofs.OneText.{texts_have_one_ranking, ranking_fault_is_memory, name_fault_is, ranking_read}

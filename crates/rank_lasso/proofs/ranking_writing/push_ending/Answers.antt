@@ -4,10 +4,10 @@ use Rattle.std.proofs.lemmas.Int.{to_z-of_z}
 use Rattle.std.specs.Prelude.{ℤ, map}
 use Rattle.std.specs.List.{AllByRecursion}
 use Rattle.letter_acts.specs.Frames.{Columns}
-use Rattle.lasso_ranks.specs.Ranks.{PlainRanking, plain_ranking, IsRankingOver}
+use Rattle.rank_lasso.specs.LassoRanks.Ranks.{PlainRanking, plain_ranking, IsRankingOver}
 use Rattle.rank_lasso.specs.RankingText.{rank_line}
 use Rattle.rank_lasso.specs.Naming.{entry_frame}
-use Rattle.rank_lasso.specs.Writing.{term_form, IsSpelled, WritesEnding}
+use Rattle.rank_lasso.specs.Ties.Writing.{term_form, IsSpelled, WritesEnding}
 use Rattle.rank_lasso.proofs.WritingLaws.{rank_written, exclusion_written, appended}
 use Rattle.rank_lasso.proofs.ranking_writing.push_ending.Goals as goal
 

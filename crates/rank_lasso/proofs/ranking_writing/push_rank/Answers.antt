@@ -3,7 +3,7 @@ use Rattle.std.specs.Prelude.{ℤ, map}
 use Rattle.std.specs.List.{flat_map}
 use Rattle.proof_form.specs.Predicates.{term_text}
 use Rattle.proof_form.proofs.WritingLaws.{all_written, viewed_texts}
-use Rattle.rank_lasso.specs.Writing.{term_form}
+use Rattle.rank_lasso.specs.Ties.Writing.{term_form}
 use Rattle.rank_lasso.proofs.WritingLaws.{each_got, letters_written}
 use Rattle.rank_lasso.proofs.ranking_writing.push_rank.Goals as goal
 

@@ -2,7 +2,7 @@ use Rattle.std.proofs.Common.{◌≡◌, ◌++◌, codes, take}
 use Rattle.std.specs.List.{AllByRecursion, flat_map}
 use Rattle.proof_form.specs.Predicates.{term_text}
 use Rattle.proof_form.proofs.WritingLaws.{with_rest}
-use Rattle.rank_lasso.specs.Writing.{term_form, IsSpelled}
+use Rattle.rank_lasso.specs.Ties.Writing.{term_form, IsSpelled}
 use Rattle.rank_lasso.proofs.ranking_writing.push_rank.Given as goal
 
 abbrev pub invariant-loop-term : goal.invariant-loop-term

@@ -1,7 +1,7 @@
 use Rattle.std.proofs.Common.{◌<◌, ◌^◌, ◌∙◌, FitsSigned, rules}
 use Rattle.std.specs.Int.{w128}
 use Rattle.std.proofs.lemmas.Int.{to_z-of_z}
-use Rattle.proof_spell.proofs.CorrespondLaws.{got}
+use Rattle.proof_names.proofs.ProofSpell.CorrespondLaws.{got}
 use Rattle.rank_lasso.proofs.WritingLaws.{term_spelled, term_written, appended}
 use Rattle.rank_lasso.proofs.ranking_writing.push_term.Goals as goal
 

@@ -1,5 +1,5 @@
 use Rattle.std.proofs.Common.{◌≡◌, ℕ, ◌+◌, Err, length, ap, refl, ◌∙◌}
-use Rattle.coarse_lines.specs.declared.fault.CoarseFault.TheVariants.{Line, Triple}
+use Rattle.proof_names.specs.declared.coarse_lines.fault.CoarseFault.TheVariants.{Line, Triple}
 use Rattle.proof_names.specs.Items.{first_triple}
 use Rattle.proof_check.specs.declared.rejects.RejectCause.TheVariants.{BadName}
 use Rattle.text_reports.specs.ReportTexts.{failed_answer, rejected_answer}

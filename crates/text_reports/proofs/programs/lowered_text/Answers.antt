@@ -1,4 +1,4 @@
-use Rattle.typing_rules.specs.TypedParts.{typed_program}
+use Rattle.typed_tree.specs.TypingRules.TypedParts.{typed_program}
 use Rattle.text_reports.specs.Answers.{answer_of}
 use Rattle.text_reports.specs.ReportCases.{IsTypedText, RefusesTyped, refused}
 use Rattle.text_reports.proofs.GraphTexts.{text_lowered}

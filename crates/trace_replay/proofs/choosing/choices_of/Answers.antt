@@ -1,7 +1,7 @@
 use Rattle.std.proofs.Common.{◌≡◌, ◌∙◌, ℕ, ℤ, List, length, refl, ap, subst}
 use Rattle.std.specs.List.{AllByRecursion}
 use Rattle.typed_tree.specs.TypedTree.{TypedProgram}
-use Rattle.typing_rules.specs.TypedParts.{typed_program}
+use Rattle.typed_tree.specs.TypingRules.TypedParts.{typed_program}
 use Rattle.lin_rows.specs.Rows.{Holds}
 use Rattle.lin_rows.specs.Points.{point_of}
 use Rattle.nwa_base.specs.declared.letters.Letter.{Letter}
@@ -11,9 +11,9 @@ use Rattle.letter_acts.specs.Invariant.{Graph, IsGraph}
 use Rattle.letter_acts.specs.Kept.{Keeps}
 use Rattle.lowered_graph.specs.Lowered.{lowered}
 use Rattle.lowered_graph.specs.Laws.{IsExactWord}
-use Rattle.lowered_choices.specs.Choices.{trace_choices, FailsAtLast}
+use Rattle.lowered_graph.specs.LoweredChoices.Choices.{trace_choices, FailsAtLast}
 use Rattle.path_rows.specs.Paths.{path_of}
-use Rattle.path_traces.specs.Solved.{next_positions}
+use Rattle.trace_replay.specs.PathTraces.Solved.{next_positions}
 use Rattle.trace_replay.specs.FailureText.{numbers}
 use Rattle.trace_replay.specs.Replays.{choices_among}
 use Rattle.trace_replay.specs.ReplayAnswers.{IsTriedFault}

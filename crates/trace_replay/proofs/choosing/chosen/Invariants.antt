@@ -1,7 +1,7 @@
 use Rattle.std.proofs.Common.{◌≡◌, ◌++◌, drop}
 use Rattle.std.specs.List.{AllByRecursion}
 use Rattle.math_facts.specs.Fits.{Fits}
-use Rattle.told_choices.specs.Telling.{ChoicesFit}
+use Rattle.trace_replay.specs.ToldChoices.Telling.{ChoicesFit}
 use Rattle.trace_replay.specs.FailureText.{numbers}
 use Rattle.trace_replay.specs.Replays.{choices_among}
 use Rattle.trace_replay.proofs.choosing.chosen.Given as goal

@@ -3,7 +3,7 @@ use Rattle.std.specs.List.{AllByRecursion}
 use Rattle.std.proofs.lemmas.List.{take-map}
 use Rattle.std.proofs.lemmas.Result.{err_from_is_err_and}
 use Rattle.math_facts.specs.Fits.{Fits}
-use Rattle.typing_rules.specs.TypedParts.{typed_program}
+use Rattle.typed_tree.specs.TypingRules.TypedParts.{typed_program}
 use Rattle.boogie_run.specs.declared.types.Choice.{Choice}
 use Rattle.trace_replay.specs.FailureText.{numbers}
 use Rattle.trace_replay.specs.Replays.{choices_among}

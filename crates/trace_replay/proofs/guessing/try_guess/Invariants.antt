@@ -1,7 +1,7 @@
 use Rattle.std.proofs.Common.{[]}
 use Rattle.std.specs.List.{AllByRecursion}
 use Rattle.math_facts.specs.Fits.{Fits}
-use Rattle.typing_rules.specs.TypedParts.{typed_program}
+use Rattle.typed_tree.specs.TypingRules.TypedParts.{typed_program}
 use Rattle.boogie_run.specs.RunView.{config_of, FitsProgram}
 use Rattle.trace_replay.specs.FailureText.{numbers}
 use Rattle.trace_replay.specs.ReplayCauses.{HasMade}

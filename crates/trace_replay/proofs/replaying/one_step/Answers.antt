@@ -1,5 +1,5 @@
 use Rattle.std.proofs.Common.{Err, refl, ap, sym, ◌∙◌}
-use Rattle.typing_rules.specs.TypedParts.{typed_program}
+use Rattle.typed_tree.specs.TypingRules.TypedParts.{typed_program}
 use Rattle.boogie_run.specs.Needs.{need}
 use Rattle.boogie_run.specs.RunView.{config_of}
 use Rattle.boogie_run.specs.StepView.{need_view, choice_view, line_at}

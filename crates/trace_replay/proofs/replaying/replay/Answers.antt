@@ -1,5 +1,5 @@
 use Rattle.std.proofs.Common.{◌+◌, arith}
-use Rattle.typing_rules.specs.TypedParts.{typed_program}
+use Rattle.typed_tree.specs.TypingRules.TypedParts.{typed_program}
 use Rattle.boogie_run.specs.RunView.{config_of}
 use Rattle.trace_replay.specs.declared.causes.ReplayCause.TheVariants.{Short, BadChoice}
 use Rattle.trace_replay.specs.FailureText.{numbers}

@@ -1,4 +1,4 @@
-use Rattle.typing_rules.specs.TypedParts.{typed_program}
+use Rattle.typed_tree.specs.TypingRules.TypedParts.{typed_program}
 use Rattle.boogie_run.specs.RunView.{config_of, FitsProgram}
 use Rattle.trace_replay.specs.FailureText.{numbers}
 use Rattle.trace_replay.specs.ReplayCauses.{HasMade}

@@ -5,7 +5,7 @@ use Rattle.triple_rows.specs.declared.predicates.PredNode.{PredNode}
 use Rattle.triple_rows.specs.declared.predicates.PredNode.TheVariants.{And, Or}
 use Rattle.triple_rows.specs.Predicates.{IsOver, HasInequalities, bundled, formulas, formula_of}
 use Rattle.triple_rows.specs.Reading.{AreComplete}
-use Rattle.triple_rows.specs.Drafts.{stated, members_stated}
+use Rattle.triple_rows.specs.Ties.Drafts.{stated, members_stated}
 use Rattle.triple_rows.proofs.ReadingLaws.{front_is}
 use Rattle.triple_rows.proofs.HoldingLaws.{rest_next, parts_over_and, parts_over_or}
 use Rattle.triple_rows.proofs.DraftLaws.{adds_group, draft_is}

@@ -5,7 +5,7 @@ use Rattle.letter_acts.specs.Frames.{globals_of, olds_of}
 use Rattle.triple_rows.specs.declared.drafts.Draft.{Draft}
 use Rattle.triple_rows.specs.Predicates.{IsOver, formula_of}
 use Rattle.triple_rows.specs.Systems.{PlainSystem, PlainFits, said, denied, only_rows}
-use Rattle.triple_rows.specs.Drafts.{Adds, stated}
+use Rattle.triple_rows.specs.Ties.Drafts.{Adds, stated}
 use Rattle.triple_rows.proofs.DraftLaws.{adds_all, all_fit}
 use Rattle.triple_rows.proofs.PieceLaws.{stated_by_table, ties_by_tables, within_tables}
 use Rattle.triple_rows.proofs.BuildingLaws.{call_parts}

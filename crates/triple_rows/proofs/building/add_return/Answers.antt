@@ -4,8 +4,8 @@ use Rattle.letter_acts.specs.Invariant.{written_by}
 use Rattle.triple_rows.specs.declared.drafts.Draft.{Draft}
 use Rattle.triple_rows.specs.Predicates.{IsOver, formula_of}
 use Rattle.triple_rows.specs.Systems.{PlainSystem, PlainFits, said, denied, only_rows, after_column}
-use Rattle.frame_rows.specs.Rows.{bounds, types_at}
-use Rattle.triple_rows.specs.Drafts.{Adds, stated, return_ties}
+use Rattle.letter_acts.specs.FrameRows.Rows.{bounds, types_at}
+use Rattle.triple_rows.specs.Ties.Drafts.{Adds, stated, return_ties}
 use Rattle.triple_rows.proofs.ListLaws.{all_joined}
 use Rattle.triple_rows.proofs.DraftLaws.{adds_all, adds_joined, all_fit}
 use Rattle.triple_rows.proofs.PieceLaws.{stated_by_table}

@@ -8,7 +8,7 @@ use Rattle.letter_acts.specs.Invariant.{written_by}
 use Rattle.letter_acts.proofs.ListLemmas.{all_weaker}
 use Rattle.triple_rows.specs.declared.drafts.Draft.{Draft}
 use Rattle.triple_rows.specs.Systems.{PlainFits, only_rows, after_column, call_column}
-use Rattle.triple_rows.specs.Drafts.{Adds}
+use Rattle.triple_rows.specs.Ties.Drafts.{Adds}
 use Rattle.triple_rows.proofs.ListLaws.{all_passed}
 use Rattle.triple_rows.proofs.PieceLaws.{ties_by_tables, rows_by_table, within_tables}
 use Rattle.triple_rows.proofs.building.add_return_ties.Goals as goal

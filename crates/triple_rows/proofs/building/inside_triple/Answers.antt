@@ -3,8 +3,8 @@ use Rattle.std.specs.Prelude.{slice_index}
 use Rattle.triple_rows.specs.declared.drafts.Draft.{Draft}
 use Rattle.triple_rows.specs.Predicates.{IsOver, formula_of}
 use Rattle.triple_rows.specs.Systems.{PlainSystem, PlainFits, all_systems, said, denied, after_column, only_rows}
-use Rattle.frame_rows.specs.Rows.{bounds, types_of, types_at}
-use Rattle.triple_rows.specs.Drafts.{Adds, stated}
+use Rattle.letter_acts.specs.FrameRows.Rows.{bounds, types_of, types_at}
+use Rattle.triple_rows.specs.Ties.Drafts.{Adds, stated}
 use Rattle.triple_rows.proofs.DraftLaws.{adds_all, draft_is, all_fit}
 use Rattle.triple_rows.proofs.PieceLaws.{sliced, from_first, stated_by_table}
 use Rattle.triple_rows.proofs.building.inside_triple.Goals as goal

@@ -3,7 +3,7 @@ use Rattle.std.specs.List.{AllByRecursion}
 use Rattle.math_facts.specs.Terms.{IsBelow}
 use Rattle.letter_acts.specs.Invariant.{call_width, written_by}
 use Rattle.triple_rows.specs.Systems.{after_column, call_column}
-use Rattle.triple_rows.specs.Tables.{IsTable}
+use Rattle.triple_rows.specs.Ties.Tables.{IsTable}
 use Rattle.triple_rows.proofs.PieceLaws.{sliced, from_first}
 use Rattle.triple_rows.proofs.building.return_triple.Goals as goal
 

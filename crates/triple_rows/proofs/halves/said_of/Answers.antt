@@ -5,8 +5,8 @@ use Rattle.letter_acts.specs.Acts.{frame_of}
 use Rattle.letter_acts.specs.Invariant.{alphabet_of}
 use Rattle.triple_rows.specs.Predicates.{IsOver, formula_of}
 use Rattle.triple_rows.specs.Systems.{PlainSystem, PlainFits, said}
-use Rattle.triple_rows.specs.Drafts.{Adds, stated}
-use Rattle.triple_rows.specs.Tables.{IsTable}
+use Rattle.triple_rows.specs.Ties.Drafts.{Adds, stated}
+use Rattle.triple_rows.specs.Ties.Tables.{IsTable}
 use Rattle.triple_rows.proofs.PieceLaws.{sliced, stated_by_table}
 use Rattle.triple_rows.proofs.halves.said_of.Goals as goal
 

@@ -1,7 +1,7 @@
 use Rattle.std.proofs.Common.{◌≡◌, ◌+◌, ℕ, sym, subst, rules}
 use Rattle.triple_rows.specs.Predicates.{formula_of}
 use Rattle.triple_rows.specs.Systems.{PlainSystem, PlainFits, said}
-use Rattle.triple_rows.specs.Drafts.{Adds}
+use Rattle.triple_rows.specs.Ties.Drafts.{Adds}
 use Rattle.triple_rows.proofs.DraftLaws.{draft_is}
 use Rattle.triple_rows.proofs.HalfLaws.{said_from_zero}
 use Rattle.triple_rows.proofs.halves.said_once.Goals as goal

@@ -3,7 +3,7 @@ use Rattle.letter_acts.specs.Acts.{frame_of}
 use Rattle.letter_acts.specs.Invariant.{alphabet_of}
 use Rattle.triple_rows.specs.Predicates.{formula_of}
 use Rattle.triple_rows.specs.Systems.{PlainSystem, PlainFits, both_systems, said}
-use Rattle.triple_rows.specs.Drafts.{Adds}
+use Rattle.triple_rows.specs.Ties.Drafts.{Adds}
 use Rattle.triple_rows.proofs.DraftLaws.{draft_is, adds_both, both_fit}
 use Rattle.triple_rows.proofs.HalfLaws.{said_from_zero, said_behind}
 use Rattle.triple_rows.proofs.halves.said_twice.Goals as goal

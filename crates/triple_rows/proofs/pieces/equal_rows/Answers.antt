@@ -2,7 +2,7 @@ use Rattle.std.proofs.Common.{◌∙◌, ◌++◌, ◌∷◌, [], ℕ, List, map
 use Rattle.std.specs.Prelude.{slice_index}
 use Rattle.std.proofs.lemmas.List.{map_more}
 use Rattle.lin_rows.specs.Rows.{LinearRow}
-use Rattle.frame_rows.specs.Rows.{equal_row}
+use Rattle.letter_acts.specs.FrameRows.Rows.{equal_row}
 use Rattle.triple_rows.proofs.RowLists.{rows_pushed}
 use Rattle.triple_rows.proofs.pieces.equal_rows.Goals as goal
 

@@ -2,7 +2,7 @@ use Rattle.std.proofs.Common.{◌≡◌, map, take}
 use Rattle.std.specs.Prelude.{slice_index}
 use Rattle.std.specs.List.{AllByRecursion}
 use Rattle.lin_rows.specs.Rows.{IsRow}
-use Rattle.frame_rows.specs.Rows.{equal_row}
+use Rattle.letter_acts.specs.FrameRows.Rows.{equal_row}
 use Rattle.triple_rows.proofs.pieces.equal_rows.Given as goal
 
 abbrev pub invariant-loop-a : goal.invariant-loop-a

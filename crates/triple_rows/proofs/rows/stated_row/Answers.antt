@@ -1,4 +1,4 @@
-use Rattle.frame_rows.proofs.RenamingLaws.{distinct_names}
+use Rattle.letter_acts.proofs.FrameRows.RenamingLaws.{distinct_names}
 use Rattle.triple_rows.proofs.rows.stated_row.Goals as goal
 
 pub renamed_row-requires-clause-differ : goal.renamed_row-requires-clause-differ

@@ -1,5 +1,5 @@
 use Rattle.std.proofs.Common.{◌∙◌, ◌++◌, List, ℕ, ap}
-use Rattle.frame_rows.specs.Rows.{columns_from}
+use Rattle.letter_acts.specs.FrameRows.Rows.{columns_from}
 use Rattle.triple_rows.proofs.TableLaws.{call_table}
 use Rattle.triple_rows.proofs.tables.call_columns.Goals as goal
 

@@ -1,4 +1,4 @@
-use Rattle.frame_rows.proofs.RenamingLaws.{distinct_rows}
+use Rattle.letter_acts.proofs.FrameRows.RenamingLaws.{distinct_rows}
 use Rattle.triple_rows.proofs.ties.add_renamed.Goals as goal
 
 pub renamed_rows-requires : goal.renamed_rows-requires

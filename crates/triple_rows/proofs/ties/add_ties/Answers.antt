@@ -3,8 +3,8 @@ use Rattle.std.specs.Prelude.{map, slice_index, OnOk}
 use Rattle.std.specs.List.{AllByRecursion}
 use Rattle.lin_rows.specs.Rows.{LinearRow}
 use Rattle.triple_rows.specs.Systems.{PlainFits, only_rows}
-use Rattle.frame_rows.specs.Rows.{equal_row}
-use Rattle.triple_rows.specs.Drafts.{Adds}
+use Rattle.letter_acts.specs.FrameRows.Rows.{equal_row}
+use Rattle.triple_rows.specs.Ties.Drafts.{Adds}
 use Rattle.triple_rows.proofs.ListLaws.{all_mapped}
 use Rattle.triple_rows.proofs.PieceLaws.{doubled_ties}
 use Rattle.triple_rows.proofs.ties.add_ties.Goals as goal

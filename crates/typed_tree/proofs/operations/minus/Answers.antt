@@ -1,5 +1,5 @@
 use Rattle.std.proofs.Common.{rules}
-use Rattle.typed_tree.specs.FormView.{form_of}
+use Rattle.typed_tree.specs.Ties.FormView.{form_of}
 use Rattle.typed_tree.proofs.Scaled.{opposite_is_small}
 use Rattle.typed_tree.proofs.operations.minus.Goals as goal
 

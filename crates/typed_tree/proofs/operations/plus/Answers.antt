@@ -3,8 +3,8 @@ use Rattle.std.specs.Int.{w128}
 use Rattle.std.specs.List.{list_all}
 use Rattle.std.proofs.lemmas.Int.{to_z-of_z}
 use Rattle.typed_tree.specs.AffineForm.{form_plus, fits, added_to}
-use Rattle.typed_tree.specs.FormOrder.{terms_fit}
-use Rattle.typed_tree.specs.FormView.{form_of}
+use Rattle.typed_tree.specs.Ties.FormOrder.{terms_fit}
+use Rattle.typed_tree.specs.Ties.FormView.{form_of}
 use Rattle.typed_tree.proofs.Sums.{terms_big, constant_big, joined_fit}
 use Rattle.typed_tree.proofs.operations.plus.Goals as goal
 

@@ -4,8 +4,8 @@ use Rattle.std.specs.List.{list_all}
 use Rattle.std.proofs.lemmas.Int.{to_z-of_z}
 use Rattle.boogie_tree.specs.declared.tree.Column.{Column}
 use Rattle.typed_tree.specs.AffineForm.{form_scaled, fits}
-use Rattle.typed_tree.specs.FormOrder.{terms_fit}
-use Rattle.typed_tree.specs.FormView.{form_of}
+use Rattle.typed_tree.specs.Ties.FormOrder.{terms_fit}
+use Rattle.typed_tree.specs.Ties.FormView.{form_of}
 use Rattle.typed_tree.proofs.Sums.{terms_big, quotients_big, constant_big}
 use Rattle.typed_tree.proofs.operations.scaled.Goals as goal
 

@@ -4,7 +4,7 @@ use Rattle.race_core.specs.Races.{Race}
 use Rattle.atomic_table.specs.Table.{step, rest, Me}
 use Rattle.version_cell.specs.declared.board.Sight.{Sight}
 use Rattle.version_cell.specs.Views.{with_entry}
-use Rattle.version_cell.specs.Plays.{out}
+use Rattle.version_cell.specs.Ties.Plays.{out}
 use Rattle.version_cell.proofs.Steps.{bumps, releases}
 use Rattle.version_cell.proofs.turns.announce.Goals as goal
 

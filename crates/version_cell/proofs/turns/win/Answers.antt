@@ -3,7 +3,7 @@ use mathlib.Core.Option.{none}
 use Rattle.race_core.specs.Races.{Race}
 use Rattle.atomic_table.specs.Table.{step, rest, Me}
 use Rattle.version_cell.specs.declared.board.Sight.{Sight}
-use Rattle.version_cell.specs.Plays.{IsIdle}
+use Rattle.version_cell.specs.Ties.Plays.{IsIdle}
 use Rattle.version_cell.proofs.Steps.{wins}
 use Rattle.version_cell.proofs.turns.win.Goals as goal
 

@@ -1,7 +1,7 @@
 use Rattle.std.proofs.Common.{refl}
 use Rattle.boogie_tree.specs.View.{declaration}
 use Rattle.boogie_tree.specs.Tree.{Global}
-use Rattle.boogie_parse.proofs.ListTurns.{made-pushed}
+use Rattle.boogie_parse.proofs.Reading.ListTurns.{made-pushed}
 use Rattle.boogie_parse.proofs.grammar.declarations.globals.Goals as goal
 
 pub loop-variable-preserved : goal.loop-variable-preserved

@@ -1,7 +1,7 @@
-use Rattle.boogie_parse.specs.GrammarLimits.{IsShallow}
-use Rattle.boogie_parse.specs.ListReading.{expression_at}
-use Rattle.boogie_parse.proofs.ConditionComplete.{expression_at-complete}
-use Rattle.boogie_parse.proofs.StatementComplete.{block-read}
+use Rattle.boogie_parse.specs.Rules.GrammarLimits.{IsShallow}
+use Rattle.boogie_parse.specs.Reading.ListReading.{expression_at}
+use Rattle.boogie_parse.proofs.Rules.ConditionComplete.{expression_at-complete}
+use Rattle.boogie_parse.proofs.Rules.StatementComplete.{block-read}
 use Rattle.boogie_parse.proofs.grammar.laws.blocks_are_complete.Goals as goal
 
 pub returns : goal.returns

@@ -1,7 +1,7 @@
-use Rattle.boogie_parse.specs.GrammarLimits.{IsShallow}
-use Rattle.boogie_parse.specs.ListReading.{expression_at}
-use Rattle.boogie_parse.proofs.ListComplete.{formals-complete}
-use Rattle.boogie_parse.proofs.ConditionComplete.{guard-complete, expression_at-complete}
+use Rattle.boogie_parse.specs.Rules.GrammarLimits.{IsShallow}
+use Rattle.boogie_parse.specs.Reading.ListReading.{expression_at}
+use Rattle.boogie_parse.proofs.Rules.ListComplete.{formals-complete}
+use Rattle.boogie_parse.proofs.Rules.ConditionComplete.{guard-complete, expression_at-complete}
 use Rattle.boogie_parse.proofs.grammar.laws.lists_are_complete.Goals as goal
 
 pub returns-clause-formals : goal.returns-clause-formals

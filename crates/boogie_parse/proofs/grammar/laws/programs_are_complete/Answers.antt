@@ -1,4 +1,4 @@
-use Rattle.boogie_parse.proofs.ProgramComplete.{program-complete}
+use Rattle.boogie_parse.proofs.Rules.ProgramComplete.{program-complete}
 use Rattle.boogie_parse.proofs.grammar.laws.programs_are_complete.Goals as goal
 
 pub returns : goal.returns

@@ -1,6 +1,6 @@
-use Rattle.boogie_parse.specs.ListReading.{expression_at}
-use Rattle.boogie_parse.proofs.ConditionSound.{expression_at-sound}
-use Rattle.boogie_parse.proofs.ProgramSound.{program-sound}
+use Rattle.boogie_parse.specs.Reading.ListReading.{expression_at}
+use Rattle.boogie_parse.proofs.Rules.ConditionSound.{expression_at-sound}
+use Rattle.boogie_parse.proofs.Rules.ProgramSound.{program-sound}
 use Rattle.boogie_parse.proofs.grammar.laws.programs_are_read.Goals as goal
 
 pub returns : goal.returns

@@ -1,8 +1,8 @@
 use Rattle.boogie_parse.specs.declared.fault.Which.{Which}
-use Rattle.boogie_parse.specs.ProgramGrowth.{IsSameRoom}
-use Rattle.boogie_parse.specs.ListReading.{expression_at}
-use Rattle.boogie_parse.specs.ExpressionReading.{expression}
-use Rattle.boogie_parse.proofs.ProgramRoom.{program_keeps, expression_keeps}
+use Rattle.boogie_parse.specs.Ties.ProgramGrowth.{IsSameRoom}
+use Rattle.boogie_parse.specs.Reading.ListReading.{expression_at}
+use Rattle.boogie_parse.specs.Reading.ExpressionReading.{expression}
+use Rattle.boogie_parse.proofs.Rules.ProgramRoom.{program_keeps, expression_keeps}
 use Rattle.boogie_parse.proofs.grammar.laws.programs_grow.Goals as goal
 
 pub returns : goal.returns

@@ -1,10 +1,10 @@
 use Rattle.std.specs.List.{AllByRecursion}
 use Rattle.boogie_tree.specs.Tree.{Invariant}
-use Rattle.boogie_parse.specs.GrammarLists.{ReadsInvariants}
-use Rattle.boogie_parse.specs.GrammarLimits.{IsShallow}
-use Rattle.boogie_parse.specs.ListReading.{expression_at}
-use Rattle.boogie_parse.proofs.ListSound.{variables-sound, formals-sound, if_ok-first}
-use Rattle.boogie_parse.proofs.ConditionSound.{invariants-sound, expression_at-sound}
+use Rattle.boogie_parse.specs.Rules.GrammarLists.{ReadsInvariants}
+use Rattle.boogie_parse.specs.Rules.GrammarLimits.{IsShallow}
+use Rattle.boogie_parse.specs.Reading.ListReading.{expression_at}
+use Rattle.boogie_parse.proofs.Rules.ListSound.{variables-sound, formals-sound, if_ok-first}
+use Rattle.boogie_parse.proofs.Rules.ConditionSound.{invariants-sound, expression_at-sound}
 use Rattle.boogie_parse.proofs.grammar.laws.variables_are_read.Goals as goal
 
 pub returns-clause-variables : goal.returns-clause-variables

@@ -1,5 +1,5 @@
 use Rattle.std.proofs.Common.{◌∙◌}
-use Rattle.boogie_parse.proofs.ProgramCounts.{room_more}
+use Rattle.boogie_parse.proofs.Reading.ProgramCounts.{room_more}
 use Rattle.boogie_parse.proofs.grammar.programs.room_behind.Goals as goal
 
 pub loop-declaration-preserved : goal.loop-declaration-preserved

@@ -1,5 +1,5 @@
-use Rattle.boogie_parse.proofs.RespelledPrograms.{program-again}
-use Rattle.boogie_parse.proofs.RespelledLimits.{program-spelled-again, text-again}
+use Rattle.boogie_parse.proofs.Spelling.RespelledPrograms.{program-again}
+use Rattle.boogie_parse.proofs.Spelling.RespelledLimits.{program-spelled-again, text-again}
 use Rattle.boogie_parse.proofs.grammar.respelled.programs_are_read_again.Goals as goal
 
 pub returns-clause-grammar : goal.returns-clause-grammar

@@ -1,5 +1,5 @@
 use Rattle.boogie_tree.specs.declared.tree.Name.{Name}
-use Rattle.boogie_parse.proofs.ListTurns.{listed-pushed}
+use Rattle.boogie_parse.proofs.Reading.ListTurns.{listed-pushed}
 use Rattle.boogie_parse.proofs.grammar.variables.of_type.Goals as goal
 
 pub loop-name-preserved : goal.loop-name-preserved

@@ -1,5 +1,5 @@
 use Rattle.std.proofs.Common.{◌≡◌}
-use Rattle.boogie_parse.specs.GrammarLists.{of_type}
+use Rattle.boogie_parse.specs.Rules.GrammarLists.{of_type}
 use Rattle.boogie_parse.proofs.grammar.variables.of_type.Given as goal
 
 abbrev pub invariant-loop-name : goal.invariant-loop-name

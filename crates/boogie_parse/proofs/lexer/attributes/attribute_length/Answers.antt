@@ -1,7 +1,7 @@
 use Rattle.std.proofs.Common.{ap, sym, ◌∙◌, Err}
 use Rattle.boogie_parse.specs.declared.fault.Fault.{Fault}
-use Rattle.boogie_parse.specs.Turns.{unless_stray}
-use Rattle.boogie_parse.proofs.PieceViewLaws.{stays_open, closes}
+use Rattle.boogie_parse.specs.Ties.Turns.{unless_stray}
+use Rattle.boogie_parse.proofs.Lexing.PieceViewLaws.{stays_open, closes}
 use Rattle.boogie_parse.proofs.lexer.attributes.attribute_length.Goals as goal
 
 pub returns-in_default-clause-counted : goal.returns-in_default-clause-counted

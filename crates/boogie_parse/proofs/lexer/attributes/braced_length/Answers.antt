@@ -1,5 +1,5 @@
 use Rattle.std.proofs.Common.{◌∙◌, sym, arith}
-use Rattle.boogie_parse.proofs.PieceViewLaws.{pieces_go, pieces_close}
+use Rattle.boogie_parse.proofs.Lexing.PieceViewLaws.{pieces_go, pieces_close}
 use Rattle.boogie_parse.proofs.lexer.attributes.braced_length.Goals as goal
 
 pub returns-in_default-clause-counted : goal.returns-in_default-clause-counted

@@ -1,7 +1,7 @@
 use Rattle.std.proofs.Common.{◌≡◌, ◌≤◌, drop, map}
-use Rattle.boogie_parse.specs.Pieces.{longer}
-use Rattle.boogie_parse.specs.Attributes.{braced_length}
-use Rattle.boogie_parse.specs.PieceViews.{piece}
+use Rattle.boogie_parse.specs.Lexing.Pieces.{longer}
+use Rattle.boogie_parse.specs.Lexing.Attributes.{braced_length}
+use Rattle.boogie_parse.specs.Ties.PieceViews.{piece}
 use Rattle.boogie_parse.proofs.lexer.attributes.braced_length.Given as goal
 
 abbrev pub invariant-loop-i : goal.invariant-loop-i

@@ -1,5 +1,5 @@
 use Rattle.std.proofs.Common.{◌∙◌, sym}
-use Rattle.boogie_parse.proofs.PieceViewLaws.{is_stray, no_stray}
+use Rattle.boogie_parse.proofs.Lexing.PieceViewLaws.{is_stray, no_stray}
 use Rattle.boogie_parse.proofs.lexer.attributes.first_stray.Goals as goal
 
 pub returns-in-Stray : goal.returns-in-Stray

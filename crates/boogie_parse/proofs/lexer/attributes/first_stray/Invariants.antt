@@ -1,6 +1,6 @@
 use Rattle.std.proofs.Common.{◌≡◌, drop, map}
-use Rattle.boogie_parse.specs.PieceViews.{piece}
-use Rattle.boogie_parse.specs.Turns.{first_stray}
+use Rattle.boogie_parse.specs.Ties.PieceViews.{piece}
+use Rattle.boogie_parse.specs.Ties.Turns.{first_stray}
 use Rattle.boogie_parse.proofs.lexer.attributes.first_stray.Given as goal
 
 abbrev pub invariant-loop-next : goal.invariant-loop-next

@@ -1,5 +1,5 @@
 use Rattle.std.proofs.Common.{◌∙◌, sym, arith}
-use Rattle.boogie_parse.proofs.EnclosedLaws.{comment_goes, comment_closes, comment_stays}
+use Rattle.boogie_parse.proofs.Lexing.EnclosedLaws.{comment_goes, comment_closes, comment_stays}
 use Rattle.boogie_parse.proofs.lexer.enclosed.comment_length.Goals as goal
 
 pub loop-at-preserved : goal.loop-at-preserved

@@ -1,5 +1,5 @@
 use Rattle.std.proofs.Common.{◌≡◌, ◌-◌, ◌≤◌, length, drop}
-use Rattle.boogie_parse.specs.Pieces.{longer, comment_length}
+use Rattle.boogie_parse.specs.Lexing.Pieces.{longer, comment_length}
 use Rattle.boogie_parse.proofs.lexer.enclosed.comment_length.Given as goal
 
 abbrev pub invariant-loop-at : goal.invariant-loop-at

@@ -1,5 +1,5 @@
 use Rattle.std.proofs.Common.{◌≡◌, drop}
-use Rattle.boogie_parse.specs.Pieces.{longer, string_length}
+use Rattle.boogie_parse.specs.Lexing.Pieces.{longer, string_length}
 use Rattle.boogie_parse.proofs.lexer.enclosed.string_length.Given as goal
 
 abbrev pub invariant-loop-i : goal.invariant-loop-i

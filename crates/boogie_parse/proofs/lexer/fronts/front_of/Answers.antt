@@ -1,5 +1,5 @@
 use Rattle.std.proofs.Common.{◌∙◌, sym}
-use Rattle.boogie_parse.proofs.FrontTurns.{IsOther, blank_first, digit_first, name_first, quote_first, line_comment_first, comment_first, other_first}
+use Rattle.boogie_parse.proofs.Lexing.FrontTurns.{IsOther, blank_first, digit_first, name_first, quote_first, line_comment_first, comment_first, other_first}
 use Rattle.boogie_parse.proofs.lexer.fronts.front_of.Goals as goal
 
 pub returns-then-is_blank : goal.returns-then-is_blank

@@ -1,5 +1,5 @@
 use Rattle.std.proofs.Common.{◌∙◌, sym}
-use Rattle.boogie_parse.proofs.FrontTurns.{mark_found, no_mark}
+use Rattle.boogie_parse.proofs.Lexing.FrontTurns.{mark_found, no_mark}
 use Rattle.boogie_parse.proofs.lexer.fronts.mark_front.Goals as goal
 
 pub returns-in-Some : goal.returns-in-Some

@@ -5,8 +5,8 @@ use Rattle.std.proofs.lemmas.Iterator.Search.{find_from_yields_List}
 use Rattle.std.specs.Str.{bytes_eq}
 use Rattle.std.specs.Slice.Iter.{iter_rest}
 use Rattle.boogie_parse.specs.declared.fault.What.{What}
-use Rattle.boogie_parse.specs.Lexed.{beside, left_out}
-use Rattle.boogie_parse.proofs.LeftOut.{row, part_of, part_beside}
+use Rattle.boogie_parse.specs.Lexing.Lexed.{beside, left_out}
+use Rattle.boogie_parse.proofs.Lexing.LeftOut.{row, part_of, part_beside}
 use Rattle.boogie_parse.proofs.lexer.judgement.left_out.Goals as goal
 use Rattle.boogie_parse.proofs.lexer.judgement.left_out.Goals.{After-find}
 

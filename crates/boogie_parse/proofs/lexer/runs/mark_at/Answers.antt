@@ -4,8 +4,8 @@ use Rattle.std.proofs.lemmas.Iterator.{YieldsList-from_slice}
 use Rattle.std.proofs.lemmas.Iterator.Search.{find_from_yields_List}
 use Rattle.std.specs.List.{starts_with}
 use Rattle.std.specs.Slice.Iter.{iter_rest}
-use Rattle.boogie_parse.specs.Tokens.{mark_at, marks}
-use Rattle.boogie_parse.proofs.FirstMark.{extent_of, first_mark}
+use Rattle.boogie_parse.specs.Lexing.Tokens.{mark_at, marks}
+use Rattle.boogie_parse.proofs.Lexing.FirstMark.{extent_of, first_mark}
 use Rattle.boogie_parse.proofs.lexer.runs.mark_at.Goals as goal
 use Rattle.boogie_parse.proofs.lexer.runs.mark_at.Goals.{After-find}
 

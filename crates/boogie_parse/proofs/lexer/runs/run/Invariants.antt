@@ -1,6 +1,6 @@
 use Rattle.std.proofs.Common.{◌≡◌, ◌+◌, drop}
-use Rattle.boogie_parse.specs.Tokens.{run}
-use Rattle.boogie_parse.specs.Class.{passes}
+use Rattle.boogie_parse.specs.Lexing.Tokens.{run}
+use Rattle.boogie_parse.specs.Ties.Class.{passes}
 use Rattle.boogie_parse.proofs.lexer.runs.run.Given as goal
 
 abbrev pub invariant-loop-i : goal.invariant-loop-i

@@ -1,5 +1,5 @@
 use Rattle.std.proofs.Common.{◌≡◌, ◌+◌, ◌≤◌, drop}
-use Rattle.boogie_parse.specs.Places.{behind}
+use Rattle.boogie_parse.specs.Lexing.Places.{behind}
 use Rattle.boogie_parse.proofs.lexer.scan.behind.Given as goal
 
 abbrev pub invariant-loop-b : goal.invariant-loop-b

@@ -1,12 +1,12 @@
-use Rattle.boogie_parse.proofs.PieceTurns.{front_of_fits, pieces_at, no_pieces, behind_bounds}
-use Rattle.boogie_parse.proofs.PieceViewLaws.{next_pieces, found_turn, skipped_turn, one_more, found_all}
+use Rattle.boogie_parse.proofs.Lexing.PieceTurns.{front_of_fits, pieces_at, no_pieces, behind_bounds}
+use Rattle.boogie_parse.proofs.Lexing.PieceViewLaws.{next_pieces, found_turn, skipped_turn, one_more, found_all}
 use Rattle.std.proofs.Common.{◌≡◌, ap, sym, ◌∙◌, arith, option_map}
 use Rattle.boogie_tree.specs.declared.span.Span.{Span}
 use Rattle.std.proofs.Common.{List, ◌∷◌, ◌++◌, map, Vec, Global}
 use Rattle.boogie_parse.specs.declared.lexer.piece.Piece.{Piece}
-use Rattle.boogie_parse.specs.Pieces as pure
-use Rattle.boogie_parse.specs.Pieces.{pieces_from, pieces}
-use Rattle.boogie_parse.specs.PieceViews.{front, piece}
+use Rattle.boogie_parse.specs.Lexing.Pieces as pure
+use Rattle.boogie_parse.specs.Lexing.Pieces.{pieces_from, pieces}
+use Rattle.boogie_parse.specs.Ties.PieceViews.{front, piece}
 use Rattle.boogie_parse.proofs.lexer.scan.pieces.Goals as goal
 use Rattle.boogie_parse.proofs.lexer.scan.pieces.Goals.{After-behind-here, in-Found+in_ok-push, in_default-front}
 

@@ -1,6 +1,6 @@
 use Rattle.std.proofs.Common.{◌≡◌, ◌+◌, ◌≤◌, ◌++◌, length, map}
-use Rattle.boogie_parse.specs.Pieces.{pieces_from, pieces}
-use Rattle.boogie_parse.specs.PieceViews.{piece}
+use Rattle.boogie_parse.specs.Lexing.Pieces.{pieces_from, pieces}
+use Rattle.boogie_parse.specs.Ties.PieceViews.{piece}
 use Rattle.boogie_parse.proofs.lexer.scan.pieces.Given as goal
 
 abbrev pub invariant-loop-front : goal.invariant-loop-front

@@ -3,7 +3,7 @@ use Rattle.std.specs.Borrow.{Bor}
 use Rattle.std.specs.Option.{option_map}
 use Rattle.boogie_tree.specs.declared.tree.Proc.{Proc}
 use Rattle.boogie_tree.specs.View as view
-use Rattle.boogie_types.specs.Referred.{procedures_by}
+use Rattle.boogie_types.specs.Ties.Referred.{procedures_by}
 use Rattle.boogie_types.proofs.ListedLaws.{no_first, first_by, got}
 use Rattle.boogie_types.proofs.listed.Listed.first_named.Goals as goal
 

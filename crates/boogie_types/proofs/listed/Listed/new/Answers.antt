@@ -1,5 +1,5 @@
 use Rattle.std.proofs.Common.{◌∙◌, ap, map}
-use Rattle.boogie_types.specs.Referred.{procedures_by}
+use Rattle.boogie_types.specs.Ties.Referred.{procedures_by}
 use Rattle.boogie_types.proofs.ListedLaws.{texts_are}
 use Rattle.boogie_types.proofs.listed.Listed.new.Goals as goal
 

@@ -6,7 +6,7 @@ use Rattle.std.specs.Map.{update}
 use Rattle.std.specs.Str.{bytes_eq}
 use Rattle.std.proofs.lemmas.Map.Text.{btree_map_updates_str}
 use Rattle.boogie_types.specs.BrokenNames.{IsSecond}
-use Rattle.boogie_types.specs.Numbers.{named_by, texts, number_of_name}
+use Rattle.boogie_types.specs.Ties.Numbers.{named_by, texts, number_of_name}
 use Rattle.boogie_types.proofs.NameLaws.{name_repeated, names_differ_more, numbers_more}
 use Rattle.boogie_types.proofs.numbered.Numbered.new.Goals as goal
 

@@ -3,7 +3,7 @@ use Rattle.std.specs.BTreeMap.{get_by}
 use Rattle.std.specs.Cmp.Lexicographic.{slice_cmp}
 use Rattle.std.specs.Ordering.{nat_cmp}
 use Rattle.boogie_types.specs.Resolved.{is_set}
-use Rattle.boogie_types.specs.Numbers.{named_by, texts, number_of_name}
+use Rattle.boogie_types.specs.Ties.Numbers.{named_by, texts, number_of_name}
 use Rattle.boogie_types.proofs.numbered.Numbered.new.Given as goal
 
 abbrev pub invariant-loop-place : goal.invariant-loop-place

@@ -1,4 +1,4 @@
-use Rattle.explained_proof.specs.Views as view
+use Rattle.explained_proof.specs.Ties.Views as view
 use Rattle.explained_proof.proofs.JumpLaws.{passed_on, passed_end}
 use Rattle.explained_proof.proofs.backwards.JumpLabels.+label_jumps.Goals as goal
 

@@ -1,4 +1,4 @@
-use Rattle.explained_proof.specs.Views as view
+use Rattle.explained_proof.specs.Ties.Views as view
 use Rattle.explained_proof.proofs.JumpLaws.{jumps_on, jumps_end}
 use Rattle.explained_proof.proofs.backwards.JumpLabels.jumps.Goals as goal
 

@@ -2,7 +2,7 @@ use Rattle.std.proofs.Common.{◌≡◌, map, take}
 use Rattle.std.specs.List.{flat_map}
 use Rattle.boogie_tree.specs.View as tree
 use Rattle.explained_proof.specs.Clauses as spec
-use Rattle.explained_proof.specs.Views as view
+use Rattle.explained_proof.specs.Ties.Views as view
 use Rattle.explained_proof.proofs.clauses.Procedure.holding.Given as goal
 
 abbrev pub invariant-loop-entered : goal.invariant-loop-entered

@@ -5,7 +5,7 @@ use Rattle.boogie_tree.specs.View as tree
 use Rattle.typed_tree.specs.TypedView as typed
 use Rattle.explained_proof.specs.Clauses.{KnownProcedure}
 use Rattle.explained_proof.specs.Explained as spec
-use Rattle.explained_proof.specs.Views as view
+use Rattle.explained_proof.specs.Ties.Views as view
 use Rattle.explained_proof.proofs.procedures.Telling.body_if_any.Goals as goal
 
 pub returns-in_ok-body-in-Some : goal.returns-in_ok-body-in-Some

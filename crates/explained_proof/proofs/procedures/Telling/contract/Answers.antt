@@ -5,7 +5,7 @@ use Rattle.boogie_tree.specs.Tree.{Specification}
 use Rattle.boogie_tree.specs.View as tree
 use Rattle.typed_tree.specs.TypedView as typed
 use Rattle.explained_proof.specs.Explained as spec
-use Rattle.explained_proof.specs.Views as view
+use Rattle.explained_proof.specs.Ties.Views as view
 use Rattle.explained_proof.proofs.ProcedureLaws.{some_there, none_there, contract_entered, contract_never}
 use Rattle.explained_proof.proofs.procedures.Telling.contract.Goals as goal
 use Rattle.explained_proof.proofs.procedures.Telling.contract.Goals.{then-not-is_empty+in_ok-ensured+in_ok-append, else-not-is_empty}

@@ -3,11 +3,11 @@ use Rattle.std.specs.Prelude.{IfOk}
 use Rattle.boogie_tree.specs.Tree as plain
 use Rattle.boogie_tree.specs.Tree.{Expression, Specification}
 use Rattle.boogie_tree.specs.View as tree
-use Rattle.row_expressions.specs.declared.scopes.Position.TheVariants as positions
+use Rattle.explained_proof.specs.declared.row_expressions.scopes.Position.TheVariants as positions
 use Rattle.explained_proof.specs.Clauses.{holding}
 use Rattle.explained_proof.specs.Explained as spec
 use Rattle.explained_proof.specs.Statements.{condition}
-use Rattle.explained_proof.specs.Views as view
+use Rattle.explained_proof.specs.Ties.Views as view
 use Rattle.explained_proof.proofs.procedures.Telling.ensured.Goals as goal
 
 pub returns-in_ok-holding-in-Some : goal.returns-in_ok-holding-in-Some

@@ -4,9 +4,9 @@ use Rattle.std.proofs.lemmas.Option.{slice_get_read, slice_get_past}
 use Rattle.boogie_tree.specs.Tree.{Procedure}
 use Rattle.boogie_tree.specs.View as tree
 use Rattle.typed_tree.specs.TypedView as typed
-use Rattle.typing_rules.specs.TypedParts.{typed_program}
+use Rattle.typed_tree.specs.TypingRules.TypedParts.{typed_program}
 use Rattle.explained_proof.specs.Explained as spec
-use Rattle.explained_proof.specs.Views as view
+use Rattle.explained_proof.specs.Ties.Views as view
 use Rattle.explained_proof.proofs.ProcedureLaws.{listed_there, listed_past, seen_there, seen_past}
 use Rattle.explained_proof.proofs.procedures.Telling.implemented_named.Goals as goal
 

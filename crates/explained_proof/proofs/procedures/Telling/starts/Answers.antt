@@ -1,5 +1,5 @@
 use Rattle.explained_proof.specs.Explained as spec
-use Rattle.explained_proof.specs.Views as view
+use Rattle.explained_proof.specs.Ties.Views as view
 use Rattle.explained_proof.proofs.ProcedureLaws.{starts_on}
 use Rattle.explained_proof.proofs.procedures.Telling.starts.Goals as goal
 

@@ -1,14 +1,14 @@
 use Rattle.std.proofs.Common.{◌≡◌, ◌∙◌, ◌+◌, ℕ, List, map, length, ap, subst, arith}
 use Rattle.std.specs.Prelude.{IfOk}
-use Rattle.boogie_points.specs.Actions.{free_conditions}
+use Rattle.boogie_run.specs.BoogiePoints.Actions.{free_conditions}
 use Rattle.boogie_tree.specs.Tree.{Block}
 use Rattle.boogie_tree.specs.View as tree
 use Rattle.typed_tree.specs.declared.types.TSpec.{TSpec}
 use Rattle.typed_tree.specs.TypedView as typed
-use Rattle.typing_rules.specs.TypedParts.{typed_program}
+use Rattle.typed_tree.specs.TypingRules.TypedParts.{typed_program}
 use Rattle.explained_proof.specs.Explained as spec
 use Rattle.explained_proof.specs.Statements.{left, explained_block}
-use Rattle.explained_proof.specs.Views as view
+use Rattle.explained_proof.specs.Ties.Views as view
 use Rattle.explained_proof.proofs.PlaceLaws.{statements_fit, statements_there}
 use Rattle.explained_proof.proofs.procedures.Telling.statements.Goals as goal
 

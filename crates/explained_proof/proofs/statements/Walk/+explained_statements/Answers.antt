@@ -7,7 +7,7 @@ use Rattle.boogie_tree.specs.Tree.{Statement, Block}
 use Rattle.boogie_tree.specs.View as tree
 use Rattle.explained_proof.specs.Statements as spec
 use Rattle.explained_proof.specs.Statements.{Left}
-use Rattle.explained_proof.specs.Views as view
+use Rattle.explained_proof.specs.Ties.Views as view
 use Rattle.explained_proof.proofs.StatementLaws.{block_before, drop_head, flag_here, explained_on, branch_explained}
 use Rattle.explained_proof.proofs.statements.Walk.+explained_statements.Goals as goal
 

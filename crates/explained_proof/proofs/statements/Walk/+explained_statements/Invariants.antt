@@ -1,9 +1,9 @@
 use Rattle.std.proofs.Common.{◌≡◌, ◌+◌, map, drop, length}
 use Rattle.boogie_tree.specs.View as tree
 use Rattle.typed_tree.specs.TypedView as typed
-use Rattle.explained_proof.specs.Fitting.{HasPlaces}
+use Rattle.explained_proof.specs.Ties.Fitting.{HasPlaces}
 use Rattle.explained_proof.specs.Statements as spec
-use Rattle.explained_proof.specs.Views as view
+use Rattle.explained_proof.specs.Ties.Views as view
 use Rattle.explained_proof.proofs.statements.Walk.+explained_statements.Given as goal
 
 abbrev pub invariant-statements-loop-statement : goal.invariant-statements-loop-statement

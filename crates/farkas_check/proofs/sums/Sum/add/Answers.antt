@@ -6,7 +6,7 @@ use Rattle.std.proofs.lemmas.Int.{to_z-of_z}
 use Rattle.math_facts.specs.Fits.{Fits}
 use Rattle.math_facts.specs.Optional.{or_zero}
 use Rattle.lin_rows.specs.Rows.{LinearRow}
-use Rattle.farkas_check.specs.Leaves.{PartSum, columns_of, TermsFit, AddsTerms, RowFits, AddsRow}
+use Rattle.farkas_check.specs.Ties.Leaves.{PartSum, columns_of, TermsFit, AddsTerms, RowFits, AddsRow}
 use Rattle.farkas_check.proofs.sums.Sum.add.Goals as goal
 
 -- the terms are added, or do not fit, and the bound is that of the sum

@@ -1,7 +1,7 @@
 use Rattle.std.proofs.Common.{rules, pos, FitsSigned, get_or, refl, ◌∙◌, ℕ, ℤ, List, subst}
 use Rattle.std.specs.Int.{w128}
 use Rattle.std.proofs.lemmas.Int.{to_z-of_z}
-use Rattle.farkas_check.specs.Leaves.{columns_of, AddsTerms}
+use Rattle.farkas_check.specs.Ties.Leaves.{columns_of, AddsTerms}
 use Rattle.farkas_check.proofs.SumLaws.{AddsTerms_start, AddsTerms_more, AddsTerms_none}
 use Rattle.std.proofs.lemmas.List.{take_all}
 use Rattle.farkas_check.proofs.sums.Sum.add_terms.Goals as goal

@@ -1,5 +1,5 @@
 use Rattle.std.proofs.Common.{◌≡◌, take}
-use Rattle.farkas_check.specs.Leaves.{columns_of, AddsTerms}
+use Rattle.farkas_check.specs.Ties.Leaves.{columns_of, AddsTerms}
 use Rattle.farkas_check.proofs.sums.Sum.add_terms.Given as goal
 
 -- the terms so far were added

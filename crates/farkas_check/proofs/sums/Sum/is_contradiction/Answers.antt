@@ -2,7 +2,7 @@ use Rattle.std.proofs.Common.{◌≡◌, ℕ, ℤ, pos, List, length, nat_eq, ap
 use Rattle.std.specs.Map.{lookup}
 use Rattle.std.proofs.lemmas.Bool.{false≢true}
 use Rattle.math_facts.specs.Optional.{or_zero}
-use Rattle.farkas_check.specs.Leaves.{PartSum}
+use Rattle.farkas_check.specs.Ties.Leaves.{PartSum}
 use Rattle.farkas_check.proofs.SumLaws.{none_kept}
 use Rattle.farkas_check.proofs.sums.Sum.is_contradiction.Goals as goal
 

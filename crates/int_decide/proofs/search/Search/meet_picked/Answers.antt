@@ -3,7 +3,7 @@ use Rattle.lin_rows.specs.Rows.{LinearRow, RowsBelow}
 use Rattle.lin_rows.specs.Tightening.{tightened}
 use Rattle.farkas_check.specs.Walks.{goal_at_hand}
 use Rattle.farkas_check.specs.Refutes.{Goal}
-use Rattle.int_decide.specs.Searching.{OpensNone}
+use Rattle.int_decide.specs.Ties.Searching.{OpensNone}
 use Rattle.int_decide.proofs.SearchSteps.{opens_goes_on}
 use Rattle.int_decide.proofs.search.Search.meet_picked.Goals as goal
 

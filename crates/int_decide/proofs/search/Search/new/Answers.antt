@@ -1,6 +1,6 @@
 use Rattle.std.proofs.Common.{◌∙◌, ap, sym, reverse, length, false}
 use Rattle.farkas_check.specs.Nodes.{plain_nodes}
-use Rattle.int_decide.specs.Searching.{tasks}
+use Rattle.int_decide.specs.Ties.Searching.{tasks}
 use Rattle.int_decide.proofs.search.Search.new.Goals as goal
 
 pub returns-clause-stands : goal.returns-clause-stands

@@ -1,4 +1,4 @@
-use Rattle.nwa_difference.specs.Seen.{found}
+use Rattle.nwa_difference.specs.Ties.Seen.{found}
 use Rattle.nwa_difference.proofs.PairLemmas.{value_added}
 use Rattle.nwa_difference.proofs.pairs.Pairs.note_exit.Goals as goal
 

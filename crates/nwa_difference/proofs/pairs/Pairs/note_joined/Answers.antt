@@ -1,4 +1,4 @@
-use Rattle.nwa_difference.specs.Seen.{found}
+use Rattle.nwa_difference.specs.Ties.Seen.{found}
 use Rattle.nwa_difference.proofs.PairLemmas.{key_added, key_told, test_pairs}
 use Rattle.nwa_difference.proofs.pairs.Pairs.note_joined.Goals as goal
 

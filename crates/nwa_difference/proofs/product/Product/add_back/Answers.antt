@@ -1,5 +1,5 @@
-use Rattle.nwa_difference.specs.Seen.{seen}
-use Rattle.nwa_difference.specs.Making.{Nowhere, OnlyReturn}
+use Rattle.nwa_difference.specs.Ties.Seen.{seen}
+use Rattle.nwa_difference.specs.Ties.Making.{Nowhere, OnlyReturn}
 use Rattle.nwa_difference.proofs.GrowingLemmas.{extends_more}
 use Rattle.nwa_difference.proofs.AddLemmas.{back_step}
 use Rattle.nwa_difference.proofs.FitLemmas.{back_state, back_letter}

@@ -1,5 +1,5 @@
-use Rattle.nwa_difference.specs.Seen.{seen}
-use Rattle.nwa_difference.specs.Making.{Only, NoReturn}
+use Rattle.nwa_difference.specs.Ties.Seen.{seen}
+use Rattle.nwa_difference.specs.Ties.Making.{Only, NoReturn}
 use Rattle.nwa_difference.proofs.GrowingLemmas.{extends_more}
 use Rattle.nwa_difference.proofs.AddLemmas.{inside_step}
 use Rattle.nwa_difference.proofs.FitLemmas.{inside_state, inside_letter}

@@ -1,5 +1,5 @@
 use Rattle.std.proofs.Common.{refl}
-use Rattle.nwa_difference.specs.Seen.{seen}
+use Rattle.nwa_difference.specs.Ties.Seen.{seen}
 use Rattle.nwa_difference.proofs.GrowingLemmas.{sets_made, sets_extend}
 use Rattle.nwa_difference.proofs.EndLemmas.{both_extend, call_end_is, call_end_covered}
 use Rattle.nwa_difference.proofs.product.Product.call_end.Goals as goal

@@ -1,5 +1,5 @@
 use Rattle.std.proofs.Common.{refl}
-use Rattle.nwa_difference.specs.Seen.{seen}
+use Rattle.nwa_difference.specs.Ties.Seen.{seen}
 use Rattle.nwa_difference.proofs.GrowingLemmas.{sets_made, sets_extend}
 use Rattle.nwa_difference.proofs.EndLemmas.{both_extend, inside_end_is, inside_end_covered}
 use Rattle.nwa_difference.proofs.product.Product.inside_end.Goals as goal

@@ -1,5 +1,5 @@
 use Rattle.std.proofs.Common.{eqb, ◌&&◌, ℕ}
-use Rattle.nwa_difference.specs.Seen.{seen}
+use Rattle.nwa_difference.specs.Ties.Seen.{seen}
 use Rattle.nwa_difference.proofs.BeginLemmas.{begun, one_key}
 use Rattle.nwa_difference.proofs.product.Product.new.Goals as goal
 

@@ -1,4 +1,4 @@
-use Rattle.nwa_difference.specs.Seen.{seen}
+use Rattle.nwa_difference.specs.Ties.Seen.{seen}
 use Rattle.nwa_difference.proofs.OpeningLemmas.{has_returns}
 use Rattle.nwa_difference.proofs.product.Product.returns.Goals as goal
 

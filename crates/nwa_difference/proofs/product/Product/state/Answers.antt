@@ -1,5 +1,5 @@
 use Rattle.std.proofs.Common.{◌∙◌, ◌<◌, ◌^◌, refl, sym, true, false, arith}
-use Rattle.nwa_difference.specs.Seen.{seen}
+use Rattle.nwa_difference.specs.Ties.Seen.{seen}
 use Rattle.nwa_difference.proofs.MakingLemmas.{state_extends_at, extends_same, not_new, is_new, fits_more, state_there, at_ok, product_final, state_last, place_small}
 use Rattle.nwa_difference.proofs.product.Product.state.Goals as goal
 

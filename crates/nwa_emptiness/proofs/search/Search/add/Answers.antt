@@ -2,7 +2,7 @@ use Rattle.std.proofs.Common.{ℕ, eqb, refl}
 use Rattle.std.proofs.lemmas.Result.{on_ok_weaker}
 use Rattle.std.specs.HashMap.{get}
 use Rattle.nwa_base.specs.Groups.{grouped}
-use Rattle.nwa_emptiness.specs.Seen.{seen}
+use Rattle.nwa_emptiness.specs.Ties.Seen.{seen}
 use Rattle.nwa_emptiness.proofs.PlaceLemmas.{GrowsAt}
 use Rattle.nwa_emptiness.proofs.SearchLemmas.{added, not_new, is_new, was_there, entry_none, entry_some}
 use Rattle.nwa_emptiness.proofs.search.Search.add.Goals as goal

@@ -1,4 +1,4 @@
-use Rattle.nwa_emptiness.specs.Seen.{seen}
+use Rattle.nwa_emptiness.specs.Ties.Seen.{seen}
 use Rattle.nwa_emptiness.proofs.SearchLemmas.{search_none}
 use Rattle.nwa_emptiness.proofs.search.Search.new.Goals as goal
 

@@ -1,5 +1,5 @@
 use Rattle.std.proofs.Common.{refl, sym}
-use Rattle.nwa_emptiness.specs.Seen.{seen}
+use Rattle.nwa_emptiness.specs.Ties.Seen.{seen}
 use Rattle.nwa_emptiness.proofs.SearchLemmas.{no_way_at, way_at}
 use Rattle.nwa_emptiness.proofs.search.Search.point.Goals as goal
 

@@ -1,8 +1,8 @@
 use Rattle.std.proofs.Common.{◌∙◌, ◌<◌, ℕ, List, [], ◌∷◌, ◌++◌, Some, length, refl, ap, subst, arith}
-use Rattle.nwa_reduce.specs.Marks.{leader_in}
-use Rattle.nwa_reduce.specs.Signatures.{Signs}
-use Rattle.nwa_reduce.specs.Classes.{lists_of}
-use Rattle.nwa_reduce.specs.Seen.{seen}
+use Rattle.nwa_reduce.specs.Ties.Marks.{leader_in}
+use Rattle.nwa_reduce.specs.Ties.Signatures.{Signs}
+use Rattle.nwa_reduce.specs.Ties.Classes.{lists_of}
+use Rattle.nwa_reduce.specs.Ties.Seen.{seen}
 use Rattle.nwa_reduce.proofs.ListLemmas.{get_within}
 use Rattle.nwa_reduce.proofs.VectorLemmas.{list_there, list_new, read_at}
 use Rattle.nwa_reduce.proofs.ClassLemmas.{joins, opens, one_more}

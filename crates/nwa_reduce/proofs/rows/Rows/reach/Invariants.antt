@@ -1,5 +1,5 @@
 use Rattle.std.proofs.Common.{◌≡◌, ◌+◌, ◌-◌, ℕ, length}
-use Rattle.nwa_reduce.specs.Rows.{row_of}
+use Rattle.nwa_reduce.specs.Ties.Rows.{row_of}
 use Rattle.nwa_reduce.proofs.rows.Rows.reach.Given as goal
 
 abbrev pub invariant-loop-self : goal.invariant-loop-self

@@ -1,4 +1,4 @@
-use Rattle.boogie_parse.proofs.ExpressionRoom as room
+use Rattle.boogie_parse.proofs.Rules.ExpressionRoom as room
 use Rattle.boogie_parse.proofs.grammar.expressions.laws.one_expression.Goals as goal
 
 pub returns-clause-one : goal.returns-clause-one

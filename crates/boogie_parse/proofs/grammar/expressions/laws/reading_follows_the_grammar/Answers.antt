@@ -1,6 +1,6 @@
-use Rattle.boogie_parse.proofs.ExpressionSound as sound
-use Rattle.boogie_parse.proofs.ExpressionComplete as complete
-use Rattle.boogie_parse.proofs.ExpressionRoom as room
+use Rattle.boogie_parse.proofs.Rules.ExpressionSound as sound
+use Rattle.boogie_parse.proofs.Rules.ExpressionComplete as complete
+use Rattle.boogie_parse.proofs.Rules.ExpressionRoom as room
 use Rattle.boogie_parse.proofs.grammar.expressions.laws.reading_follows_the_grammar.Goals as goal
 
 pub returns-clause-sound : goal.returns-clause-sound

@@ -2,10 +2,10 @@ use Rattle.std.proofs.Common.{◌≡◌, suc, ◌+◌, ◌-◌, List, refl, ap, 
 use Rattle.std.proofs.lemmas.Result.{err_from_is_err_and}
 use Rattle.boogie_tree.specs.declared.level.Level.TheVariants.{Implication, Comparison}
 use Rattle.boogie_parse.specs.declared.symbols.Symbol.{Symbol}
-use Rattle.boogie_parse.specs.ExpressionReading as reading
-use Rattle.boogie_parse.specs.ExpressionViews.{tree, Gives, seen, behind}
-use Rattle.boogie_parse.proofs.ExpressionSteps.{turn_deep, turn_fails, turn_goes, turn_full, unary_step}
-use Rattle.boogie_parse.proofs.ExpressionExits as exits
+use Rattle.boogie_parse.specs.Reading.ExpressionReading as reading
+use Rattle.boogie_parse.specs.Ties.ExpressionViews.{tree, Gives, seen, behind}
+use Rattle.boogie_parse.proofs.Reading.ExpressionSteps.{turn_deep, turn_fails, turn_goes, turn_full, unary_step}
+use Rattle.boogie_parse.proofs.Reading.ExpressionExits as exits
 use Rattle.boogie_parse.proofs.grammar.parser.Parser.+expressions.Goals as goal
 
 pub chain_from-returns-then-left-depth-clause-gives : goal.chain_from-returns-then-left-depth-clause-gives

@@ -2,8 +2,8 @@
 use Rattle.std.proofs.Common.{◌≡◌, ◌≤◌, ℕ, ◌+◌, ◌-◌, ◌*◌}
 use Rattle.boogie_parse.specs.declared.grammar.expressions.operators.Chain.{Chain}
 use Rattle.boogie_parse.specs.declared.grammar.expressions.operators.Chain.TheVariants as chains
-use Rattle.boogie_parse.specs.ExpressionReading as reading
-use Rattle.boogie_parse.specs.ExpressionViews.{tree, HasHeight}
+use Rattle.boogie_parse.specs.Reading.ExpressionReading as reading
+use Rattle.boogie_parse.specs.Ties.ExpressionViews.{tree, HasHeight}
 use Rattle.boogie_parse.proofs.grammar.parser.Parser.+expressions.Given as goal
 
 abbrev weight : Chain → ℕ

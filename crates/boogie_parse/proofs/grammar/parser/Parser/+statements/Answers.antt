@@ -1,12 +1,12 @@
 use Rattle.std.proofs.Common.{refl, ap, sym, arith, map, length}
 use Rattle.std.proofs.lemmas.Result.{err_from_is_err_and}
 use Rattle.boogie_tree.specs.View.{statement}
-use Rattle.boogie_parse.specs.ListReading.{one_there, expression_at}
-use Rattle.boogie_parse.specs.StatementReading.{statement_item, list_at}
-use Rattle.boogie_parse.specs.StatementViews.{inside}
-use Rattle.boogie_parse.proofs.ListTurns.{starts, continues, stops, fails, completes, length-adds, map-pushed}
-use Rattle.boogie_parse.proofs.OpenedStatements.{statement_if, statement_while, added_there}
-use Rattle.boogie_parse.proofs.BlockSteps.{block_unopened, block_full, block_opened, block_fails, branch_full, branch_goes}
+use Rattle.boogie_parse.specs.Reading.ListReading.{one_there, expression_at}
+use Rattle.boogie_parse.specs.Reading.StatementReading.{statement_item, list_at}
+use Rattle.boogie_parse.specs.Ties.StatementViews.{inside}
+use Rattle.boogie_parse.proofs.Reading.ListTurns.{starts, continues, stops, fails, completes, length-adds, map-pushed}
+use Rattle.boogie_parse.proofs.Reading.OpenedStatements.{statement_if, statement_while, added_there}
+use Rattle.boogie_parse.proofs.Reading.BlockSteps.{block_unopened, block_full, block_opened, block_fails, branch_full, branch_goes}
 use Rattle.boogie_parse.proofs.grammar.parser.Parser.+statements.Goals as goal
 
 pub list-loop-turn-init : goal.list-loop-turn-init

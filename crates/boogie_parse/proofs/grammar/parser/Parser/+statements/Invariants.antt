@@ -1,9 +1,9 @@
 use Rattle.std.proofs.Common.{◌+◌, ◌-◌, ◌*◌, length, map}
 use Rattle.boogie_tree.specs.View.{statement}
-use Rattle.boogie_parse.specs.ListReading.{expression_at}
-use Rattle.boogie_parse.specs.StatementReading.{statement_item, list_at}
-use Rattle.boogie_parse.specs.StatementViews.{inside}
-use Rattle.boogie_parse.proofs.ListTurns.{Reached, remaining}
+use Rattle.boogie_parse.specs.Reading.ListReading.{expression_at}
+use Rattle.boogie_parse.specs.Reading.StatementReading.{statement_item, list_at}
+use Rattle.boogie_parse.specs.Ties.StatementViews.{inside}
+use Rattle.boogie_parse.proofs.Reading.ListTurns.{Reached, remaining}
 use Rattle.boogie_parse.proofs.grammar.parser.Parser.+statements.Given as goal
 
 abbrev pub decreases-block : goal.decreases-block

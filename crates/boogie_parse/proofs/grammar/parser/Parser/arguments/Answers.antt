@@ -1,8 +1,8 @@
 use Rattle.boogie_tree.specs.View.{expression}
 use Rattle.boogie_parse.specs.declared.symbols.Fixed.TheVariants as fixed
-use Rattle.boogie_parse.specs.ListViews.{items_as}
-use Rattle.boogie_parse.specs.ListReading.{arguments_at}
-use Rattle.boogie_parse.proofs.EndedValues.{ended_as}
+use Rattle.boogie_parse.specs.Reading.ListViews.{items_as}
+use Rattle.boogie_parse.specs.Reading.ListReading.{arguments_at}
+use Rattle.boogie_parse.proofs.Reading.EndedValues.{ended_as}
 use Rattle.boogie_parse.proofs.grammar.parser.Parser.arguments.Goals as goal
 
 pub returns : goal.returns

@@ -1,8 +1,8 @@
 use Rattle.std.proofs.Common.{refl}
-use Rattle.boogie_parse.specs.ListReading.{expression_at}
-use Rattle.boogie_parse.specs.StatementReading.{assign_at}
-use Rattle.boogie_parse.proofs.SeenStatements.{seen_assign}
-use Rattle.boogie_parse.proofs.AddedStatements.{added_if}
+use Rattle.boogie_parse.specs.Reading.ListReading.{expression_at}
+use Rattle.boogie_parse.specs.Reading.StatementReading.{assign_at}
+use Rattle.boogie_parse.proofs.Reading.SeenStatements.{seen_assign}
+use Rattle.boogie_parse.proofs.Reading.AddedStatements.{added_if}
 use Rattle.boogie_parse.proofs.grammar.parser.Parser.assignment.Goals as goal
 
 pub returns : goal.returns

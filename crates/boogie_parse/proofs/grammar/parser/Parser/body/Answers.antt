@@ -1,7 +1,7 @@
 use Rattle.boogie_tree.specs.View.{body}
 use Rattle.boogie_parse.specs.declared.symbols.Fixed.TheVariants as fixed
-use Rattle.boogie_parse.specs.ProgramReading.{body_at}
-use Rattle.boogie_parse.proofs.EndedValues.{ended_as}
+use Rattle.boogie_parse.specs.Reading.ProgramReading.{body_at}
+use Rattle.boogie_parse.proofs.Reading.EndedValues.{ended_as}
 use Rattle.boogie_parse.proofs.grammar.parser.Parser.body.Goals as goal
 
 pub returns : goal.returns

@@ -1,7 +1,7 @@
 use Rattle.std.proofs.Common.{Some, refl}
-use Rattle.boogie_parse.specs.StatementReading.{break_at}
-use Rattle.boogie_parse.proofs.SeenStatements.{seen_break}
-use Rattle.boogie_parse.proofs.AddedStatements.{added_if}
+use Rattle.boogie_parse.specs.Reading.StatementReading.{break_at}
+use Rattle.boogie_parse.proofs.Reading.SeenStatements.{seen_break}
+use Rattle.boogie_parse.proofs.Reading.AddedStatements.{added_if}
 use Rattle.boogie_parse.proofs.grammar.parser.Parser.break_out.Goals as goal
 
 pub returns : goal.returns

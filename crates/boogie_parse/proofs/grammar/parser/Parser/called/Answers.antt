@@ -1,8 +1,8 @@
 use Rattle.std.proofs.Common.{refl}
-use Rattle.boogie_parse.specs.ListReading.{expression_at}
-use Rattle.boogie_parse.specs.StatementReading.{called_at}
-use Rattle.boogie_parse.proofs.SeenStatements.{seen_call}
-use Rattle.boogie_parse.proofs.AddedStatements.{added_if}
+use Rattle.boogie_parse.specs.Reading.ListReading.{expression_at}
+use Rattle.boogie_parse.specs.Reading.StatementReading.{called_at}
+use Rattle.boogie_parse.proofs.Reading.SeenStatements.{seen_call}
+use Rattle.boogie_parse.proofs.Reading.AddedStatements.{added_if}
 use Rattle.boogie_parse.proofs.grammar.parser.Parser.called.Goals as goal
 
 pub returns : goal.returns

@@ -1,7 +1,7 @@
 use Rattle.boogie_tree.specs.View.{expression}
 use Rattle.boogie_parse.specs.declared.symbols.Fixed.TheVariants as fixed
-use Rattle.boogie_parse.specs.ListReading.{claim_at}
-use Rattle.boogie_parse.proofs.EndedValues.{ended_as}
+use Rattle.boogie_parse.specs.Reading.ListReading.{claim_at}
+use Rattle.boogie_parse.proofs.Reading.EndedValues.{ended_as}
 use Rattle.boogie_parse.proofs.grammar.parser.Parser.claim.Goals as goal
 
 pub returns : goal.returns

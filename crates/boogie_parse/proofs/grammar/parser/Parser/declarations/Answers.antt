@@ -1,11 +1,11 @@
 use Rattle.std.proofs.Common.{ap, map, arith}
 use Rattle.std.proofs.lemmas.Result.{err_from_is_err_and}
 use Rattle.boogie_tree.specs.View.{declaration}
-use Rattle.boogie_parse.specs.GrammarLimits.{procedures_counted}
-use Rattle.boogie_parse.specs.ListReading.{expression_at}
-use Rattle.boogie_parse.specs.ProgramReading.{declaration_at, declarations_at}
-use Rattle.boogie_parse.proofs.ListTurns.{starts, continues, stops, fails, completes}
-use Rattle.boogie_parse.proofs.ProgramCounts.{procedures-add, no_procedures, room_appended, map-appended}
+use Rattle.boogie_parse.specs.Rules.GrammarLimits.{procedures_counted}
+use Rattle.boogie_parse.specs.Reading.ListReading.{expression_at}
+use Rattle.boogie_parse.specs.Reading.ProgramReading.{declaration_at, declarations_at}
+use Rattle.boogie_parse.proofs.Reading.ListTurns.{starts, continues, stops, fails, completes}
+use Rattle.boogie_parse.proofs.Reading.ProgramCounts.{procedures-add, no_procedures, room_appended, map-appended}
 use Rattle.boogie_parse.proofs.grammar.parser.Parser.declarations.Goals as goal
 
 pub loop-turn-init : goal.loop-turn-init

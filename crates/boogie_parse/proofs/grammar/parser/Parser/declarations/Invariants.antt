@@ -1,9 +1,9 @@
 use Rattle.std.proofs.Common.{◌≡◌, ◌-◌, map}
 use Rattle.boogie_tree.specs.View.{declaration}
-use Rattle.boogie_parse.specs.GrammarLimits.{procedures_counted}
-use Rattle.boogie_parse.specs.ListReading.{expression_at}
-use Rattle.boogie_parse.specs.ProgramReading.{declaration_at, declarations_at}
-use Rattle.boogie_parse.proofs.ListTurns.{Reached, remaining}
+use Rattle.boogie_parse.specs.Rules.GrammarLimits.{procedures_counted}
+use Rattle.boogie_parse.specs.Reading.ListReading.{expression_at}
+use Rattle.boogie_parse.specs.Reading.ProgramReading.{declaration_at, declarations_at}
+use Rattle.boogie_parse.proofs.Reading.ListTurns.{Reached, remaining}
 use Rattle.boogie_parse.proofs.grammar.parser.Parser.declarations.Given as goal
 
 abbrev pub invariant-loop-turn : goal.invariant-loop-turn

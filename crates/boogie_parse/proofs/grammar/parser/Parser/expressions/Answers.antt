@@ -1,8 +1,8 @@
 use Rattle.std.proofs.Common.{refl, ap, arith, map}
 use Rattle.std.proofs.lemmas.Result.{err_from_is_err_and}
 use Rattle.boogie_tree.specs.View.{expression}
-use Rattle.boogie_parse.specs.ListReading.{one, expression_at, expression_item, expressions_at}
-use Rattle.boogie_parse.proofs.ListTurns.{begins, goes, ends, faults, exhausted, map-pushed}
+use Rattle.boogie_parse.specs.Reading.ListReading.{one, expression_at, expression_item, expressions_at}
+use Rattle.boogie_parse.proofs.Reading.ListTurns.{begins, goes, ends, faults, exhausted, map-pushed}
 use Rattle.boogie_parse.proofs.grammar.parser.Parser.expressions.Goals as goal
 
 pub loop-turn-init : goal.loop-turn-init

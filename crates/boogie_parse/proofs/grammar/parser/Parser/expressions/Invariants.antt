@@ -1,7 +1,7 @@
 use Rattle.std.proofs.Common.{◌-◌, map}
 use Rattle.boogie_tree.specs.View.{expression}
-use Rattle.boogie_parse.specs.ListReading.{expression_at, expression_item, expressions_at}
-use Rattle.boogie_parse.proofs.ListTurns.{Reached, left}
+use Rattle.boogie_parse.specs.Reading.ListReading.{expression_at, expression_item, expressions_at}
+use Rattle.boogie_parse.proofs.Reading.ListTurns.{Reached, left}
 use Rattle.boogie_parse.proofs.grammar.parser.Parser.expressions.Given as goal
 
 abbrev pub invariant-loop-turn : goal.invariant-loop-turn

@@ -1,7 +1,7 @@
 use Rattle.boogie_parse.specs.declared.symbols.Fixed.TheVariants as fixed
-use Rattle.boogie_parse.specs.ListViews.{items}
-use Rattle.boogie_parse.specs.ListReading.{formals_at}
-use Rattle.boogie_parse.proofs.EndedValues.{ended_as}
+use Rattle.boogie_parse.specs.Reading.ListViews.{items}
+use Rattle.boogie_parse.specs.Reading.ListReading.{formals_at}
+use Rattle.boogie_parse.proofs.Reading.EndedValues.{ended_as}
 use Rattle.boogie_parse.proofs.grammar.parser.Parser.formals.Goals as goal
 
 pub returns : goal.returns

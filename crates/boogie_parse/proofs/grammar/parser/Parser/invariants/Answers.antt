@@ -1,7 +1,7 @@
 use Rattle.std.proofs.Common.{refl, ap, arith, map, length}
 use Rattle.boogie_tree.specs.View.{invariant}
-use Rattle.boogie_parse.specs.ListReading.{one_there, expression_at, invariant_item, invariants_at}
-use Rattle.boogie_parse.proofs.ListTurns.{starts, continues, stops, fails, completes, length-adds, map-pushed}
+use Rattle.boogie_parse.specs.Reading.ListReading.{one_there, expression_at, invariant_item, invariants_at}
+use Rattle.boogie_parse.proofs.Reading.ListTurns.{starts, continues, stops, fails, completes, length-adds, map-pushed}
 use Rattle.boogie_parse.proofs.grammar.parser.Parser.invariants.Goals as goal
 
 pub loop-turn-init : goal.loop-turn-init

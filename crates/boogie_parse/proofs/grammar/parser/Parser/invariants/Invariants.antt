@@ -1,7 +1,7 @@
 use Rattle.std.proofs.Common.{◌-◌, length, map}
 use Rattle.boogie_tree.specs.View.{invariant}
-use Rattle.boogie_parse.specs.ListReading.{expression_at, invariant_item, invariants_at}
-use Rattle.boogie_parse.proofs.ListTurns.{Reached, remaining}
+use Rattle.boogie_parse.specs.Reading.ListReading.{expression_at, invariant_item, invariants_at}
+use Rattle.boogie_parse.proofs.Reading.ListTurns.{Reached, remaining}
 use Rattle.boogie_parse.proofs.grammar.parser.Parser.invariants.Given as goal
 
 abbrev pub invariant-loop-turn : goal.invariant-loop-turn

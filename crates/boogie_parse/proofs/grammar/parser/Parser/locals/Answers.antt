@@ -1,7 +1,7 @@
 use Rattle.std.proofs.Common.{arith, length}
 use Rattle.std.proofs.lemmas.Result.{err_from_is_err_and}
-use Rattle.boogie_parse.specs.ProgramReading.{local_at, locals_at}
-use Rattle.boogie_parse.proofs.ListTurns.{starts, continues, stops, fails, completes, length-adds}
+use Rattle.boogie_parse.specs.Reading.ProgramReading.{local_at, locals_at}
+use Rattle.boogie_parse.proofs.Reading.ListTurns.{starts, continues, stops, fails, completes, length-adds}
 use Rattle.boogie_parse.proofs.grammar.parser.Parser.locals.Goals as goal
 
 pub loop-turn-init : goal.loop-turn-init

@@ -1,6 +1,6 @@
 use Rattle.std.proofs.Common.{◌-◌, length}
-use Rattle.boogie_parse.specs.ProgramReading.{local_at, locals_at}
-use Rattle.boogie_parse.proofs.ListTurns.{Reached, remaining}
+use Rattle.boogie_parse.specs.Reading.ProgramReading.{local_at, locals_at}
+use Rattle.boogie_parse.proofs.Reading.ListTurns.{Reached, remaining}
 use Rattle.boogie_parse.proofs.grammar.parser.Parser.locals.Given as goal
 
 abbrev pub invariant-loop-turn : goal.invariant-loop-turn

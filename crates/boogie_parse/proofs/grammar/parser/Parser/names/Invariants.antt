@@ -1,6 +1,6 @@
 use Rattle.std.proofs.Common.{◌-◌}
-use Rattle.boogie_parse.specs.ListReading.{name_item, names_at}
-use Rattle.boogie_parse.proofs.ListTurns.{Reached, left}
+use Rattle.boogie_parse.specs.Reading.ListReading.{name_item, names_at}
+use Rattle.boogie_parse.proofs.Reading.ListTurns.{Reached, left}
 use Rattle.boogie_parse.proofs.grammar.parser.Parser.names.Given as goal
 
 abbrev pub invariant-loop-turn : goal.invariant-loop-turn

@@ -1,7 +1,7 @@
 use Rattle.std.proofs.Common.{refl}
-use Rattle.boogie_parse.specs.StatementReading.{return_at}
-use Rattle.boogie_parse.proofs.SeenStatements.{seen_return}
-use Rattle.boogie_parse.proofs.AddedStatements.{added_if}
+use Rattle.boogie_parse.specs.Reading.StatementReading.{return_at}
+use Rattle.boogie_parse.proofs.Reading.SeenStatements.{seen_return}
+use Rattle.boogie_parse.proofs.Reading.AddedStatements.{added_if}
 use Rattle.boogie_parse.proofs.grammar.parser.Parser.return_out.Goals as goal
 
 pub returns : goal.returns

@@ -1,9 +1,9 @@
 use Rattle.std.proofs.Common.{refl, ap, arith, map, length}
 use Rattle.std.proofs.lemmas.Result.{err_from_is_err_and}
 use Rattle.boogie_tree.specs.View.{specification}
-use Rattle.boogie_parse.specs.ListReading.{one_there, expression_at}
-use Rattle.boogie_parse.specs.ProgramReading.{specification_item, specifications_at}
-use Rattle.boogie_parse.proofs.ListTurns.{starts, continues, stops, fails, completes, length-adds, map-pushed}
+use Rattle.boogie_parse.specs.Reading.ListReading.{one_there, expression_at}
+use Rattle.boogie_parse.specs.Reading.ProgramReading.{specification_item, specifications_at}
+use Rattle.boogie_parse.proofs.Reading.ListTurns.{starts, continues, stops, fails, completes, length-adds, map-pushed}
 use Rattle.boogie_parse.proofs.grammar.parser.Parser.specifications.Goals as goal
 
 pub loop-turn-init : goal.loop-turn-init

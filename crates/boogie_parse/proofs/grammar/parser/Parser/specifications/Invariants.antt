@@ -1,8 +1,8 @@
 use Rattle.std.proofs.Common.{◌-◌, length, map}
 use Rattle.boogie_tree.specs.View.{specification}
-use Rattle.boogie_parse.specs.ListReading.{expression_at}
-use Rattle.boogie_parse.specs.ProgramReading.{specification_item, specifications_at}
-use Rattle.boogie_parse.proofs.ListTurns.{Reached, remaining}
+use Rattle.boogie_parse.specs.Reading.ListReading.{expression_at}
+use Rattle.boogie_parse.specs.Reading.ProgramReading.{specification_item, specifications_at}
+use Rattle.boogie_parse.proofs.Reading.ListTurns.{Reached, remaining}
 use Rattle.boogie_parse.proofs.grammar.parser.Parser.specifications.Given as goal
 
 abbrev pub invariant-loop-turn : goal.invariant-loop-turn

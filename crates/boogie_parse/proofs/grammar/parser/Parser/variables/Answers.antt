@@ -1,7 +1,7 @@
 use Rattle.std.proofs.Common.{arith}
 use Rattle.std.proofs.lemmas.Result.{err_from_is_err_and}
-use Rattle.boogie_parse.specs.ListReading.{group_at, variables_at}
-use Rattle.boogie_parse.proofs.ListTurns.{begins, goes, ends, faults, exhausted}
+use Rattle.boogie_parse.specs.Reading.ListReading.{group_at, variables_at}
+use Rattle.boogie_parse.proofs.Reading.ListTurns.{begins, goes, ends, faults, exhausted}
 use Rattle.boogie_parse.proofs.grammar.parser.Parser.variables.Goals as goal
 
 pub loop-turn-init : goal.loop-turn-init

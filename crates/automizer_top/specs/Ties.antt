@@ -1,0 +1,4 @@
+pub mod Asked
+pub mod PartViews
+pub mod Answers
+pub mod EarlierViews

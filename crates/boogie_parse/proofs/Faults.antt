@@ -1,0 +1,14 @@
+pub mod ExpressionRefusals
+pub mod ProgramRefusals
+pub mod SyntaxFaults
+pub mod LimitFaults
+pub mod LimitPlaces
+pub mod TokenFaults
+pub mod SettledTools
+pub mod SettledExpressions
+pub mod SettledPrograms
+pub mod BegunTools
+pub mod BegunExpressions
+pub mod BegunLists
+pub mod BegunStatements
+pub mod BegunPrograms

@@ -1,0 +1,15 @@
+pub mod TokenExtents
+pub mod FirstMark
+pub mod Blanks
+pub mod LiteralLaws
+pub mod EnclosedLaws
+pub mod FrontLaws
+pub mod PieceTurns
+pub mod LexedTurns
+pub mod LeftOut
+pub mod PieceViewLaws
+pub mod FrontTurns
+pub mod TokenTurns
+pub mod SliceLaws
+pub mod Spellings
+pub mod LiteralTokens

@@ -1,0 +1,9 @@
+pub mod ExpressionSteps
+pub mod ListTurns
+pub mod EndedValues
+pub mod SeenStatements
+pub mod OpenedStatements
+pub mod AddedStatements
+pub mod BlockSteps
+pub mod ExpressionExits
+pub mod ProgramCounts

@@ -1,0 +1,14 @@
+pub mod ExpressionSound
+pub mod ExpressionComplete
+pub mod ExpressionRoom
+pub mod ListSound
+pub mod ConditionSound
+pub mod StatementSound
+pub mod ProgramSound
+pub mod ListComplete
+pub mod ConditionComplete
+pub mod StatementComplete
+pub mod ProgramComplete
+pub mod ProgramRoom
+pub mod WeakerRoom
+pub mod WholeText

@@ -1,0 +1,5 @@
+pub mod Spelled
+pub mod ProgramSpelling
+pub mod PrintedTokens
+pub mod Respelled
+pub mod Parentheses

@@ -1,0 +1,10 @@
+pub mod StatementViews
+pub mod ProgramViews
+pub mod PieceViews
+pub mod Literals
+pub mod ProgramGrowth
+pub mod ExpressionLaws
+pub mod Turns
+pub mod Class
+pub mod Settled
+pub mod ExpressionViews

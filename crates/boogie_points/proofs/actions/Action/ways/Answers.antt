@@ -1,6 +1,0 @@
-use Rattle.boogie_points.specs.View.{action_view}
-use Rattle.boogie_points.proofs.ToldLaws.{ways_told}
-use Rattle.boogie_points.proofs.actions.Action.ways.Goals as goal
-
-pub returns : goal.returns
-returns c = λ a e. ways_told a (action_view c.args.self.now) c.count.result c.count.ensures e

@@ -1,8 +1,0 @@
-use Rattle.std.proofs.Common.{◌≡◌, map, drop}
-use Rattle.std.specs.Prelude.{slice_get}
-use Rattle.typed_tree.specs.TypedView as view
-use Rattle.boogie_points.specs.Actions.{ensured_conditions}
-use Rattle.boogie_points.proofs.conditions.ensured_condition.Given as goal
-
-abbrev pub invariant-loop-said : goal.invariant-loop-said
-invariant-loop-said l = slice_get (ensured_conditions (map view.specification (drop l.said-index l.specs))) l.left ≡ slice_get (ensured_conditions (map view.specification l.specs)) l.number

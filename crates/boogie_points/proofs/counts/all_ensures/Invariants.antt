@@ -1,7 +1,0 @@
-use Rattle.std.proofs.Common.{◌≡◌, ◌+◌, map, drop}
-use Rattle.typed_tree.specs.TypedView as view
-use Rattle.typing_rules.specs.Counts.{all_ensures}
-use Rattle.boogie_points.proofs.counts.all_ensures.Given as goal
-
-abbrev pub invariant-loop-said : goal.invariant-loop-said
-invariant-loop-said l = l.count + all_ensures (map view.specification (drop l.said-index l.specs)) ≡ all_ensures (map view.specification l.specs)

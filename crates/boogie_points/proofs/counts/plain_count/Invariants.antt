@@ -1,7 +1,0 @@
-use Rattle.std.proofs.Common.{◌≡◌, ◌+◌, map, drop}
-use Rattle.typed_tree.specs.TypedView as view
-use Rattle.typing_rules.specs.Counts.{plain_invariants}
-use Rattle.boogie_points.proofs.counts.plain_count.Given as goal
-
-abbrev pub invariant-loop-condition : goal.invariant-loop-condition
-invariant-loop-condition l = l.count + plain_invariants (map view.invariant (drop l.condition-index l.conditions)) ≡ plain_invariants (map view.invariant l.conditions)

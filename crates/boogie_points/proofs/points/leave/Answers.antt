@@ -1,6 +1,0 @@
-use Rattle.std.proofs.Common.{refl}
-use Rattle.boogie_points.proofs.StackLaws.{stack_none}
-use Rattle.boogie_points.proofs.points.leave.Goals as goal
-
-pub returns : goal.returns
-returns c = rw (c.clear.ensures.items, stack_none) refl

@@ -1,0 +1,10 @@
+pub mod Points
+pub mod Actions
+pub mod Starts
+pub mod Told
+pub mod Room
+pub mod View
+pub mod Numbered
+pub mod Stacks
+pub mod Sites
+pub mod Ties

@@ -1,0 +1,2 @@
+pub mod AtStatement
+pub mod Seeking

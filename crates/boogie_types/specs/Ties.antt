@@ -1,0 +1,13 @@
+pub mod Replaced
+pub mod Modified
+pub mod PlaceViews
+pub mod Referred
+pub mod Numbers
+pub mod ProcedureFaults
+pub mod Making
+pub mod Places
+pub mod DeclarationFaults
+pub mod Specifications
+pub mod Bodies
+pub mod NamingFaults
+pub mod DeclaredView

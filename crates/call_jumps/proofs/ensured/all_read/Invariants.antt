@@ -1,8 +1,0 @@
-use Rattle.std.proofs.Common.{◌≡◌, false, map, take}
-use Rattle.typed_tree.specs.TypedView.{expression}
-use Rattle.call_jumps.specs.Reading.{read_by}
-use Rattle.call_jumps.specs.Stands.{stands_of}
-use Rattle.call_jumps.proofs.ensured.all_read.Given as goal
-
-abbrev pub invariant-loop-cond : goal.invariant-loop-cond
-invariant-loop-cond l = map expression l.all.items ≡ map (read_by (stands_of l.reader) false) (map expression (take l.cond-index l.conds))

@@ -1,7 +1,0 @@
-use Rattle.std.proofs.Common.{◌≡◌, map, take}
-use Rattle.typed_tree.specs.TypedView.{expression}
-use Rattle.call_jumps.specs.Stands.{stand_of, argument_stand}
-use Rattle.call_jumps.proofs.standings.standings.Given as goal
-
-abbrev pub invariant-loop-arg : goal.invariant-loop-arg
-invariant-loop-arg l = map stand_of l.standings.items ≡ map (argument_stand l.frame.columns.items) (map expression (take l.arg-index l.args))

@@ -1,4 +1,0 @@
-use Rattle.command_words.proofs.beginning.+byte_of_pages.Given as goal
-
-abbrev pub decreases-byte_of_pages : goal.decreases-byte_of_pages
-decreases-byte_of_pages l = l.pages

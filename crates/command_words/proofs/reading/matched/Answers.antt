@@ -1,6 +1,0 @@
-use Rattle.clap.specs.Simple.{app_of}
-use Rattle.command_words.proofs.MatchLaws.{simple}
-use Rattle.command_words.proofs.reading.matched.Goals as goal
-
-pub returns-in-Ok : goal.returns-in-Ok
-returns-in-Ok c = (c.in-Ok.ensures.kinds c.requires, (c.in-Ok.ensures.matches (simple (app_of c.args.command) c.requires)).0)

@@ -1,0 +1,13 @@
+use Rattle.std.proofs.Common.{◌≡◌, ◌+◌, ◌++◌, true, false, length, map, drop}
+use Rattle.std.specs.List.{AllByRecursion}
+use Rattle.typed_tree.specs.TypedView.{expression}
+use Rattle.typed_tree.specs.AffineForm.{forms_fit}
+use Rattle.typed_tree.specs.Scope.{is_constant_column}
+use Rattle.cond_jumps.specs.FreeProducts.FreeProducts.{all_free_products, all_freed}
+use Rattle.cond_jumps.proofs.free_products.freeing.all_freed.Given as goal
+
+abbrev pub invariant-loop-expr : goal.invariant-loop-expr
+invariant-loop-expr l =
+    AllByRecursion (λ e. forms_fit (is_constant_column l.globals) false e ≡ true) (map expression (drop l.expr-index l.exprs))
+    × (map expression l.all.items ++ all_freed (is_constant_column l.globals) l.next (map expression (drop l.expr-index l.exprs)) ≡ all_freed (is_constant_column l.globals) l.first (map expression l.exprs))
+    × (l.next + length (all_free_products (is_constant_column l.globals) (map expression (drop l.expr-index l.exprs))) ≡ l.first + length (all_free_products (is_constant_column l.globals) (map expression l.exprs)))

@@ -1,0 +1,5 @@
+pub mod JoinView
+pub mod SumView
+pub mod PairView
+pub mod WidthView
+pub mod Totals

@@ -1,0 +1,9 @@
+pub mod Items
+pub mod Sites
+pub mod Notes
+pub mod Texts
+pub mod Story
+pub mod Lines
+pub mod Seen
+pub mod Tables
+pub mod Ties

@@ -1,0 +1,11 @@
+use Rattle.std.proofs.Common.{◌∙◌, Bool, sym, ap}
+use Rattle.std.specs.Borrow.{Bor}
+use Rattle.lin_rows.specs.Rows.{LinearRow}
+use Rattle.explained_proof.proofs.RowExpressions.LoopLaws.{any_here}
+use Rattle.explained_proof.specs.FactExpressions.Facts as spec
+use Rattle.explained_proof.proofs.fact_expressions.conjunctions.is_row.Goals as goal
+
+pub returns-then-is_equal : goal.returns-then-is_equal
+returns-then-is_equal c =
+    let P : LinearRow → Bool = spec.is_equal c.args.row.now in
+    sym (any_here P (λ (r : Bor LinearRow). r.now) c.args.rows.now c.loop-other.other-index c.other-item.result c.loop-other-test.true (ap (λ (r : Bor LinearRow). P (r.now)) (sym c.other-item.is) ∙ sym c.if-is_equal.ensures))

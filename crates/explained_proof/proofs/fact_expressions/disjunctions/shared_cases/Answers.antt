@@ -1,0 +1,13 @@
+use Rattle.std.proofs.Common.{Bool, map}
+use Rattle.std.specs.List.{list_all}
+use Rattle.triple_rows.specs.Predicates.{Formula}
+use Rattle.explained_proof.specs.FactExpressions.Facts as known
+use Rattle.explained_proof.specs.FactExpressions.Views as view
+use Rattle.explained_proof.proofs.FactExpressions.FactLaws.{filter_next}
+use Rattle.explained_proof.proofs.fact_expressions.disjunctions.shared_cases.Goals as goal
+
+pub loop-tree-preserved : goal.loop-tree-preserved
+loop-tree-preserved c =
+    let P : Formula → Bool = λ f. list_all (λ d. known.has_cases d.cases f) (map view.facts c.args.facts.now) in
+    filter_next P (view.tree) c.args.cases.now c.loop-tree.tree-index c.tree-item.result c.all_have_cases.result (map view.tree c.loop-tree.list.items) (map view.tree c.push_tree_if.new.list.items)
+    c.loop-tree-test.true c.tree-item.is c.loop-tree.invariant c.all_have_cases.ensures c.in_ok-push_tree_if.ensures

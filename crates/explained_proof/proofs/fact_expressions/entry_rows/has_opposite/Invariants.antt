@@ -1,0 +1,8 @@
+use Rattle.std.proofs.Common.{◌≡◌, false, take}
+use Rattle.std.specs.List.{list_any}
+use Rattle.explained_proof.specs.FactExpressions.EntryRows as spec
+use Rattle.explained_proof.specs.FactExpressions.Views as view
+use Rattle.explained_proof.proofs.fact_expressions.entry_rows.has_opposite.Given as goal
+
+abbrev pub invariant-loop-other : goal.invariant-loop-other
+invariant-loop-other l = list_any (spec.are_opposite l.row) (view.rows (take l.other-index l.rows)) ≡ false

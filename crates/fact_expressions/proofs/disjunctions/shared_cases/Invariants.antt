@@ -1,9 +1,0 @@
-use Rattle.std.proofs.Common.{◌≡◌, map, take}
-use Rattle.std.specs.Prelude.{filter}
-use Rattle.std.specs.List.{list_all}
-use Rattle.fact_expressions.specs.Facts as facts
-use Rattle.fact_expressions.specs.Views as view
-use Rattle.fact_expressions.proofs.disjunctions.shared_cases.Given as goal
-
-abbrev pub invariant-loop-tree : goal.invariant-loop-tree
-invariant-loop-tree l = map view.tree l.list.items ≡ filter (λ f. list_all (λ d. facts.has_cases d.cases f) (map view.facts l.facts)) (map view.tree (take l.tree-index l.cases))

@@ -1,9 +1,0 @@
-use Rattle.std.proofs.Common.{◌≡◌, map, take}
-use Rattle.std.specs.Prelude.{filter}
-use Rattle.std.specs.List.{list_all}
-use Rattle.fact_expressions.specs.Facts as facts
-use Rattle.fact_expressions.specs.Views as view
-use Rattle.fact_expressions.proofs.disjunctions.shared_rows.Given as goal
-
-abbrev pub invariant-loop-row : goal.invariant-loop-row
-invariant-loop-row l = view.rows l.list.items ≡ filter (λ r. list_all (λ d. facts.is_row d.rows r) (map view.facts l.facts)) (view.rows (take l.row-index l.rows))

@@ -1,5 +1,0 @@
-use Rattle.fact_expressions.proofs.SaidWorth.{conclusions_follow, premises_imply, alternatives_conclude, alternatives_premise}
-use Rattle.fact_expressions.proofs.laws.facts_are_said_soundly.Goals as goal
-
-pub returns : goal.returns
-returns c = record { conclusions = conclusions_follow; premises = premises_imply; alternatives = alternatives_conclude; alternative_premises = alternatives_premise }

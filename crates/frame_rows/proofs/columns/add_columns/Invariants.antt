@@ -1,6 +1,0 @@
-use Rattle.std.proofs.Common.{◌≡◌, ◌++◌}
-use Rattle.frame_rows.specs.Rows.{columns_from}
-use Rattle.frame_rows.proofs.columns.add_columns.Given as goal
-
-abbrev pub invariant-loop-i : goal.invariant-loop-i
-invariant-loop-i l = l.columns.items ≡ l.initial.columns.items ++ columns_from l.from l.i

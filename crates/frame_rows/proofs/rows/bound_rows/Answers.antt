@@ -1,8 +1,0 @@
-use Rattle.frame_rows.proofs.LoopLaws.{bounds_next}
-use Rattle.frame_rows.proofs.rows.bound_rows.Goals as goal
-
-pub loop-i-preserved : goal.loop-i-preserved
-loop-i-preserved c = (
-  bounds_next c.args.first c.loop-i.i c.args.types.now _ c.loop-i.made.items c.add_bounds.new.made.items c.loop-i-test.true c.loop-i.invariant.0 c.in_ok-add_bounds.ensures.value,
-  c.in_ok-add_bounds.ensures.valid,
-)

@@ -1,6 +1,0 @@
-use Rattle.std.proofs.Common.{◌≡◌, map, take}
-use Rattle.std.specs.Prelude.{slice_index}
-use Rattle.frame_rows.proofs.rows.renamed_row.Given as goal
-
-abbrev pub invariant-loop-column : goal.invariant-loop-column
-invariant-loop-column l = l.terms.items ≡ map (λ t. (slice_index l.names t.0, t.1)) (take l.column-index l.column-items)

@@ -1,9 +1,0 @@
-use Rattle.std.proofs.Common.{◌≡◌, map, take}
-use Rattle.std.specs.Prelude.{slice_index}
-use Rattle.std.specs.List.{AllByRecursion}
-use Rattle.lin_rows.specs.Rows.{IsRow}
-use Rattle.frame_rows.specs.Rows.{renamed}
-use Rattle.frame_rows.proofs.rows.renamed_rows.Given as goal
-
-abbrev pub invariant-loop-row : goal.invariant-loop-row
-invariant-loop-row l = (l.made.items ≡ map (renamed (slice_index l.names)) (take l.row-index l.rows)) × AllByRecursion IsRow l.made.items

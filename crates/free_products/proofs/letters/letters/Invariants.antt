@@ -1,9 +1,0 @@
-use Rattle.std.proofs.Common.{◌≡◌, ◌++◌, map, drop}
-use Rattle.cond_jumps.specs.Conjs.{conjunctions}
-use Rattle.free_products.specs.Letters.{marked_letter}
-use Rattle.free_products.specs.LetterView.{all_marked}
-use Rattle.free_products.proofs.letters.letters.Given as goal
-
-abbrev pub invariant-loop-conj : goal.invariant-loop-conj
-invariant-loop-conj l =
-    all_marked l.all.items ++ map (marked_letter l.low l.count l.more) (conjunctions (drop l.conj-index l.conjs)) ≡ map (marked_letter l.low l.count l.more) (conjunctions l.conjs)

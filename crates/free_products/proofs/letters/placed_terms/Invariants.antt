@@ -1,6 +1,0 @@
-use Rattle.std.proofs.Common.{◌≡◌, ◌++◌, drop}
-use Rattle.free_products.specs.LetterView.{placed_terms}
-use Rattle.free_products.proofs.letters.placed_terms.Given as goal
-
-abbrev pub invariant-loop-column : goal.invariant-loop-column
-invariant-loop-column l = l.all.items ++ placed_terms l.places (drop l.column-index l.terms) ≡ placed_terms l.places l.terms

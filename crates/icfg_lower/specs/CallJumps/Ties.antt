@@ -1,0 +1,9 @@
+pub mod ImportView
+pub mod Sums
+pub mod ParameterView
+pub mod Arguments
+pub mod Reading
+pub mod Readings
+pub mod Stands
+pub mod Numbered
+pub mod Conjoined

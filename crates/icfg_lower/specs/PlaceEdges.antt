@@ -1,0 +1,3 @@
+pub mod WalkedParts
+pub mod Forms
+pub mod Ties

@@ -1,0 +1,4 @@
+pub mod Searching
+pub mod Picking
+pub mod Alike
+pub mod CutCounts

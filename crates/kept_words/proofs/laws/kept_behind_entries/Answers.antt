@@ -1,5 +1,0 @@
-use Rattle.kept_words.proofs.KeptLaws.{kept_behind}
-use Rattle.kept_words.proofs.laws.kept_behind_entries.Goals as goal
-
-pub returns : goal.returns
-returns g c program kept next h e k n = kept_behind g.E.Evidence.automaton program kept next h e k n

@@ -1,4 +1,0 @@
-pub mod Lassos
-pub mod Walks
-pub mod Ranks
-pub mod Outcomes

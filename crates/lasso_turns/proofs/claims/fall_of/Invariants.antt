@@ -1,7 +1,0 @@
-use Rattle.std.proofs.Common.{◌≡◌, ◌++◌, drop}
-use Rattle.math_facts.specs.Terms.{opposite}
-use Rattle.lasso_turns.specs.Claims.{at_versions}
-use Rattle.lasso_turns.proofs.claims.fall_of.Given as goal
-
-abbrev pub invariant-loop-column : goal.invariant-loop-column
-invariant-loop-column l = l.given.items ++ opposite (at_versions l.after (drop l.column-index l.terms)) ≡ l.terms ++ opposite (at_versions l.after l.terms)

@@ -1,0 +1,17 @@
+use Rattle.std.proofs.Common.{◌≡◌, ◌∙◌, ◌++◌, List, ℕ, map, ap}
+use Rattle.letter_acts.specs.Frames.{globals_of}
+use Rattle.nested_itp.specs.NestedRefutations.Refutations.{target_tie}
+use Rattle.nested_itp.specs.declared.triple_steps.sections.Tie.TheVariants.{Target}
+use Rattle.nested_itp.specs.declared.triple_steps.sections.Section.{Section}
+use Rattle.nested_itp.specs.declared.triple_steps.sections.Section.TheVariants.{Tie}
+use Rattle.nested_itp.specs.TripleSteps.Sections.{AddsRoles}
+use Rattle.nested_itp.proofs.TripleSteps.RoleLaws.{adds_tied, on_ok}
+use Rattle.nested_itp.proofs.triple_steps.ties.tie_globals.Goals as goal
+
+pub returns : goal.returns
+returns c =
+    let old : List Section = c.args.sections.now.items in
+    let new : List Section = c.tie_targets.new.sections.items in
+    on_ok (new ≡ old ++ map (λ (x : ℕ). Tie (Target x)) c.deref.result.now) (AddsRoles old new (map target_tie (globals_of c.args.callee.now)))
+    (λ e. adds_tied old new (λ (x : ℕ). Target x) (globals_of c.args.callee.now)
+    (e ∙ ap (λ (l : List ℕ). old ++ map (λ (x : ℕ). Tie (Target x)) l) (c.deref.ensures.value ∙ c.in_ok-globals.ensures))) c.tie_targets.result c.tie_targets.ensures

@@ -1,0 +1,15 @@
+pub mod Wides
+pub mod Runnings
+pub mod Bases
+pub mod Layouts
+pub mod Tables
+pub mod Stamps
+pub mod Positions
+pub mod Walking
+pub mod Spots
+pub mod Sums
+pub mod Fitting
+pub mod Joins
+pub mod Simplifying
+pub mod Interpolants
+pub mod Ties

@@ -1,0 +1,5 @@
+pub mod Numbers
+pub mod Refutations
+pub mod Walked
+pub mod Waiting
+pub mod Ties

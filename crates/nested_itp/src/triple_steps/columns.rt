@@ -1,0 +1,97 @@
+//! Where the columns of a word stand in the system of a letter's triple.
+
+ghost use Rattle.std.specs.Prelude.{◌≡◌, ◌++◌, ◌+◌, ◌<◌, ◌^◌, IfOk, OnOk, map};
+ghost use Rattle.letter_acts.specs.FrameRows.Rows.{columns_from};
+
+use lin_rows::Col;
+use std::alloc::AllocError;
+
+/// Where the columns of a word stand in the system of a letter's triple.
+#[derive(Drop)]
+pub struct Columns {
+    /// Where those of the start stand, in order.
+    pub at: usize,
+    /// How many the word made before the letter, of a return before its call.
+    pub first: usize,
+    /// Where those stand that the letter made, in order.
+    pub made: Vec<Col>,
+}
+
+impl Columns {
+    ghost use Rattle.std.specs.Prelude.{◌≡◌};
+    ghost use Rattle.nested_itp.specs.TripleSteps.Steps.{column_place, FitColumns};
+
+    /// Those of a word with so many columns. No memory is left where a number does not fit.
+    pub(crate) fn of(
+        at: usize,
+        first: usize,
+        made: Vec<Col>,
+        total: usize,
+    ) -> Result<Columns, AllocError>
+        ensures at { IfOk result (λ c. c.at ≡ at) }
+        ensures first { IfOk result (λ c. c.first ≡ first) }
+        ensures made { IfOk result (λ c. c.made.items ≡ made.items) }
+        ensures fit { IfOk result (FitColumns total) }
+    {
+        let _end = narrowed(sum(at, total)?)?;
+        Ok(Columns { at, first, made })
+    }
+
+    /// The column in the system of a column of the word.
+    pub fn place(&self, column: Col) -> Col
+        requires { column_place self.now column < 2 ^ 32 }
+        ensures { result ≡ column_place self.now column }
+    {
+        let column = column as usize;
+        if column >= self.first {
+            if let Some(place) = self.made.get(column - self.first) {
+                return *place;
+            }
+        }
+        (self.at + column) as u32
+    }
+}
+
+/// The sum. No memory holds as many rows or columns where it does not fit.
+pub(crate) fn sum(a: usize, b: usize) -> Result<usize, AllocError>
+    ensures { IfOk result (λ n. n ≡ a + b) }
+{
+    match a.checked_add(b) {
+        Some(n) => Ok(n),
+        None => Err(AllocError),
+    }
+}
+
+/// A count as the number of a column. No system has a column whose number does not fit.
+pub(crate) fn narrowed(count: usize) -> Result<Col, AllocError>
+    ensures value { IfOk result (λ c. c ≡ count) }
+    ensures small { OnOk result (count < 2 ^ 32) }
+{
+    if count <= u32::MAX as usize {
+        Ok(count as u32)
+    } else {
+        Err(AllocError)
+    }
+}
+
+/// Adds so many columns in order, from one on.
+pub(crate) fn add_columns(made: &mut Vec<Col>, first: usize, count: usize) -> Result<(), AllocError>
+    ensures { OnOk result (made.new.items ≡ made.old.items ++ columns_from first count) }
+{
+    for i in 0..count {
+        let column = narrowed(sum(first, i)?)?;
+        made.push(column)?;
+    }
+    Ok(())
+}
+
+/// Adds the columns of a frame at these places, where the frame's columns stand from one on.
+pub(crate) fn add_places(made: &mut Vec<Col>, at: usize, places: &[u32]) -> Result<(), AllocError>
+    ensures { OnOk result (made.new.items ≡ made.old.items ++ map (λ c. at + c) places.now) }
+{
+    for i in 0..places.len() {
+        let column = narrowed(sum(at, places[i] as usize)?)?;
+        made.push(column)?;
+    }
+    Ok(())
+}

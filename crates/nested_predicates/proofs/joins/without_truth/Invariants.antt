@@ -1,9 +1,0 @@
-use Rattle.std.proofs.Common.{vec_len}
-use Rattle.nested_predicates.proofs.SimplifyingLaws.{NodesLeft}
-use Rattle.nested_predicates.proofs.joins.without_truth.Given as goal
-
-abbrev pub invariant-loop-node : goal.invariant-loop-node
-invariant-loop-node l = NodesLeft l.fn.nodes.items l.left.items l.simplifier
-
-abbrev pub decreases-loop-node : goal.decreases-loop-node
-decreases-loop-node l = vec_len l.left

@@ -1,5 +1,0 @@
-use Rattle.nested_predicates.proofs.WordLaws.{SpotsRead}
-use Rattle.nested_predicates.proofs.spots.spots.Given as goal
-
-abbrev pub invariant-loop-i : goal.invariant-loop-i
-invariant-loop-i l = SpotsRead l.icfg l.letters l.i l.frames.items l.spots.items

@@ -1,6 +1,0 @@
-pub mod Cuts
-pub mod Numbers
-pub mod Refutations
-pub mod Refuting
-pub mod Walked
-pub mod Waiting

@@ -1,0 +1,5 @@
+pub mod Seen
+pub mod Tasks
+pub mod Search
+pub mod Steps
+pub mod Loads

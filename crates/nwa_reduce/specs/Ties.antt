@@ -1,0 +1,9 @@
+pub mod Seen
+pub mod Searching
+pub mod Marks
+pub mod Signatures
+pub mod Levels
+pub mod Naming
+pub mod Classes
+pub mod Folding
+pub mod Rows

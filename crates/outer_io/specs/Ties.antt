@@ -1,0 +1,2 @@
+pub mod MemShelf
+pub mod MemSink

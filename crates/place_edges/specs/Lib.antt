@@ -1,4 +1,0 @@
-pub mod Faults
-pub mod Answered
-pub mod WalkedParts
-pub mod Forms

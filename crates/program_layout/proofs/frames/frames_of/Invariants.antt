@@ -1,8 +1,0 @@
-use Rattle.std.proofs.Common.{◌≡◌, ◌++◌, map, drop}
-use Rattle.typed_tree.specs.TypedView as view
-use Rattle.letter_acts.specs.Acts.{plain_frames}
-use Rattle.program_layout.specs.Layouts.{frame_with}
-use Rattle.program_layout.proofs.frames.frames_of.Given as goal
-
-abbrev pub invariant-loop-listed : goal.invariant-loop-listed
-invariant-loop-listed l = plain_frames l.frames.items ++ map (λ q. frame_with l.globals q.locals) (map view.procedure (drop l.listed-index l.procs)) ≡ map (λ q. frame_with l.globals q.locals) (map view.procedure l.procs)

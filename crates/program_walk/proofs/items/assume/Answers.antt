@@ -1,6 +1,0 @@
-use Rattle.program_walk.proofs.ItemSteps.{item_led}
-use Rattle.program_walk.proofs.items.assume.Goals as goal
-
-pub returns-clause-item : goal.returns-clause-item
-returns-clause-item c =
-    item_led c.args.span _ _ c.in_ok-trouble.trouble.wide c.in_ok-trouble.trouble.big c.args.lowering.now c.suppose.new.lowering c.note.new.self c.in_ok-trouble.ensures c.note.ensures

@@ -1,6 +1,0 @@
-use Rattle.typing_rules.specs.TypedParts.{typed_program}
-use Rattle.program_walk.proofs.WholeSteps.{body_fits}
-use Rattle.program_walk.proofs.programs.marks_at.Goals as goal
-
-pub returns-clause-fits : goal.returns-clause-fits
-returns-clause-fits c = λ q whole e k. body_fits (typed_program c.args.layout.now) c.args.proc q whole c.program-program.ensures.valid e k

@@ -1,4 +1,0 @@
-use Rattle.program_walk.proofs.programs.walk.Goals as goal
-
-pub returns : goal.returns
-returns c = c.in_ok-whole.ensures c.new-lowering.ensures.nothing

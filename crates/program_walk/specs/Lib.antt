@@ -1,4 +1,0 @@
-pub mod Bounds
-pub mod Walks
-pub mod Calls
-pub mod Conditions

@@ -1,0 +1,5 @@
+pub mod Built
+pub mod Needs
+pub mod Listing
+pub mod Unions
+pub mod Noted

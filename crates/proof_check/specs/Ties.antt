@@ -1,0 +1,4 @@
+pub mod Plans
+pub mod Firsts
+pub mod Covering
+pub mod Sound

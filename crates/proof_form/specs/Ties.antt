@@ -1,0 +1,3 @@
+pub mod TextViews
+pub mod TreeViews
+pub mod TreeWriting

@@ -1,0 +1,5 @@
+pub mod Sets
+pub mod Numbers
+pub mod Views
+pub mod Choices
+pub mod Settling

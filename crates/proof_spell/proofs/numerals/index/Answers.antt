@@ -1,8 +1,0 @@
-use Rattle.std.proofs.Common.{◌<◌, ◌^◌, rules}
-use Rattle.proof_spell.proofs.NumeralLaws.{index_of}
-use Rattle.proof_spell.proofs.numerals.index.Goals as goal
-
-pub returns : goal.returns
-returns c =
-    let l : c.args.number < 2 ^ 64 = search rules in
-    index_of c.natural.result c.args.number l c.natural.ensures

@@ -1,7 +1,0 @@
-use Rattle.std.proofs.Common.{take}
-use Rattle.proof_spell.specs.Correspond.{Correspond}
-use Rattle.proof_spell.specs.Nodes.{SpellsPart}
-use Rattle.proof_spell.proofs.refutations.part_lines.Given as goal
-
-abbrev pub invariant-loop-part : goal.invariant-loop-part
-invariant-loop-part l = Correspond SpellsPart l.lines.items (take l.part-index l.parts)

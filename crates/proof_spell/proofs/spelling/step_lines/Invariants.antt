@@ -1,7 +1,0 @@
-use Rattle.std.proofs.Common.{take}
-use Rattle.proof_spell.specs.Correspond.{Correspond}
-use Rattle.proof_spell.specs.Spelled.{SpellsStep}
-use Rattle.proof_spell.proofs.spelling.step_lines.Given as goal
-
-abbrev pub invariant-loop-step : goal.invariant-loop-step
-invariant-loop-step l = Correspond SpellsStep l.lines.items (take l.step-index l.steps)

@@ -1,4 +1,0 @@
-use Rattle.proof_unwind.proofs.search.entry_with.Given as goal
-
-abbrev pub invariant-loop-candidate : goal.invariant-loop-candidate
-invariant-loop-candidate l = Unit {0}

@@ -1,5 +1,0 @@
-pub mod Unwindings
-pub mod Exploring
-pub mod Spots
-pub mod Searches
-pub mod Renumbering

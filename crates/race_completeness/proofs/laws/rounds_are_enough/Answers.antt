@@ -1,7 +1,0 @@
-use Rattle.itp_automaton.specs.Certified.{IsFeasibleFor}
-use Rattle.race_rounds.specs.Rounds.{automaton_in}
-use Rattle.race_completeness.proofs.ShortHistories.{never_over}
-use Rattle.race_completeness.proofs.laws.rounds_are_enough.Goals as goal
-
-pub returns : goal.returns
-returns c = never_over automaton_in IsFeasibleFor

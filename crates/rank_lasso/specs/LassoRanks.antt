@@ -1,0 +1,4 @@
+pub mod Lassos
+pub mod Ranks
+pub mod Outcomes
+pub mod Ties

@@ -1,7 +1,0 @@
-use Rattle.std.proofs.Common.{take}
-use Rattle.std.specs.List.{AllByRecursion}
-use Rattle.frac.specs.Fractions.{IsFraction}
-use Rattle.ranking_system.proofs.scaling.know_values.Given as goal
-
-abbrev pub invariant-loop-value : goal.invariant-loop-value
-invariant-loop-value l = record { valid : AllByRecursion IsFraction (take l.value-index l.values) }

@@ -1,6 +1,0 @@
-use Rattle.std.proofs.Common.{◌≡◌, ◌+◌, ◌++◌, drop}
-use Rattle.ranking_system.specs.RankingSystem.{weighted, across}
-use Rattle.ranking_system.proofs.system.add_across.Given as goal
-
-abbrev pub invariant-loop-i : goal.invariant-loop-i
-invariant-loop-i l = l.given.items ++ weighted (l.first + l.i) (across l.column (drop l.i l.rows)) ≡ l.initial.given.items ++ weighted l.first (across l.column l.rows)

@@ -1,8 +1,0 @@
-use Rattle.std.proofs.Common.{◌≡◌, ◌+◌, ◌++◌, pos, map, drop, nat_eq, if◌then◌else◌}
-use Rattle.ranking_system.specs.RankingSystem.{weighted}
-use Rattle.ranking_system.proofs.system.add_standing.Given as goal
-
-abbrev pub invariant-loop-i : goal.invariant-loop-i
-invariant-loop-i l =
-    l.given.items ++ weighted (l.first + l.i) (map (λ v. if nat_eq v l.column then l.factor else pos 0) (drop l.i l.versions))
-    ≡ l.initial.given.items ++ weighted l.first (map (λ v. if nat_eq v l.column then l.factor else pos 0) l.versions)

@@ -1,7 +1,0 @@
-use Rattle.std.proofs.Common.{take}
-use Rattle.std.specs.List.{AllByRecursion}
-use Rattle.lin_rows.specs.Rows.{IsRow}
-use Rattle.ranking_system.proofs.system.know_rows.Given as goal
-
-abbrev pub invariant-loop-row : goal.invariant-loop-row
-invariant-loop-row l = record { valid : AllByRecursion IsRow (take l.row-index l.rows) }

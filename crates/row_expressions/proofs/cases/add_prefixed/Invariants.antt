@@ -1,6 +1,0 @@
-use Rattle.std.proofs.Common.{◌≡◌, ◌∷◌, ◌++◌, map, take}
-use Rattle.row_expressions.proofs.cases.add_prefixed.Given as goal
-
-abbrev pub invariant-loop-case : goal.invariant-loop-case
-invariant-loop-case l =
-    map (λ c. c.items) l.all.items ≡ map (λ c. c.items) l.initial.all.items ++ map (λ c. l.first ∷ c) (map (λ c. c.items) (take l.case-index l.cases.items))

@@ -1,8 +1,0 @@
-use Rattle.std.proofs.Common.{◌≡◌, ◌++◌, map, drop}
-use Rattle.boogie_tree.specs.View as view
-use Rattle.run_story.specs.Items.{global_items}
-use Rattle.run_story.specs.Seen.{item_of}
-use Rattle.run_story.proofs.tables.globals.Given as goal
-
-abbrev pub invariant-loop-each : goal.invariant-loop-each
-invariant-loop-each l = map item_of l.globals.items ++ global_items (map view.declaration (drop l.each-index l.decls)) ≡ global_items (map view.declaration l.decls)

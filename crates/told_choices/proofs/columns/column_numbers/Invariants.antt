@@ -1,6 +1,0 @@
-use Rattle.std.proofs.Common.{◌≡◌, ◌++◌, drop}
-use Rattle.lowered_steps.specs.Edges.{numbers_in}
-use Rattle.told_choices.proofs.columns.column_numbers.Given as goal
-
-abbrev pub invariant-loop-column : goal.invariant-loop-column
-invariant-loop-column l = l.numbers.items ++ numbers_in l.frame (drop l.column-index l.columns) ≡ numbers_in l.frame l.columns

@@ -1,9 +1,0 @@
-use Rattle.std.proofs.Common.{◌≡◌, ◌++◌, replicate, None}
-use Rattle.told_choices.specs.Telling.{ChoicesFit}
-use Rattle.told_choices.proofs.imports.add_none.Given as goal
-
-abbrev pub invariant-loop-i : goal.invariant-loop-i
-invariant-loop-i l = record {
-  value : l.told.items ≡ l.fn.told.items ++ replicate l._i None;
-  fits : ChoicesFit l.fn.told.items → ChoicesFit l.told.items;
-}

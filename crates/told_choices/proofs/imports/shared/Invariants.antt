@@ -1,6 +1,0 @@
-use Rattle.std.proofs.Common.{◌≡◌, ◌++◌, drop}
-use Rattle.lowered_steps.specs.Edges.{those_in}
-use Rattle.told_choices.proofs.imports.shared.Given as goal
-
-abbrev pub invariant-loop-global : goal.invariant-loop-global
-invariant-loop-global l = l.found.items ++ those_in l.targets (drop l.global-index l.modified) ≡ those_in l.targets l.modified

@@ -1,7 +1,0 @@
-use Rattle.std.proofs.Common.{◌≡◌, ◌++◌, map, drop}
-use Rattle.told_choices.specs.Walks.{guess}
-use Rattle.told_choices.specs.Views.{plain_kinds}
-use Rattle.told_choices.proofs.statements.add_guesses.Given as goal
-
-abbrev pub invariant-loop-column : goal.invariant-loop-column
-invariant-loop-column l = plain_kinds l.kinds.items ++ map (guess l.frame) (drop l.column-index l.columns) ≡ plain_kinds l.fn.kinds.items ++ map (guess l.frame) l.columns

@@ -1,5 +1,0 @@
-pub mod Kinds
-pub mod Walks
-pub mod Telling
-pub mod Made
-pub mod Views

@@ -1,0 +1,10 @@
+use Rattle.std.proofs.Common.{◌+◌, [], ◌∷◌, drop, sym}
+use Rattle.lowered_graph.specs.LoweredSteps.Edges.{numbers_in}
+use Rattle.trace_replay.proofs.ToldChoices.Turns.{turn}
+use Rattle.trace_replay.proofs.told_choices.columns.column_numbers.Goals as goal
+
+pub loop-column-preserved : goal.loop-column-preserved
+loop-column-preserved c =
+    turn (numbers_in c.args.frame.now) c.args.columns.now c.loop-column.column-index _ c.loop-column.numbers.items c.push.new.self.items (numbers_in c.args.frame.now c.args.columns.now)
+    (c.column_number.result ∷ []) c.loop-column-test.true (λ j. sym c.column_number.ensures j ∷ numbers_in c.args.frame.now (drop (c.loop-column.column-index + 1) c.args.columns.now))
+    c.in_ok-push.ensures.items c.loop-column.invariant

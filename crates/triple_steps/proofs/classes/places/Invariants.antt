@@ -1,7 +1,0 @@
-use Rattle.std.proofs.Common.{◌≡◌, ◌++◌, drop}
-use Rattle.letter_acts.specs.Frames.{places}
-use Rattle.triple_steps.specs.Classes.{is_of}
-use Rattle.triple_steps.proofs.classes.places.Given as goal
-
-abbrev pub invariant-loop-i : goal.invariant-loop-i
-invariant-loop-i l = l.places.items ++ places (is_of l.class) l.i (drop l.i l.frame) ≡ places (is_of l.class) 0 l.frame

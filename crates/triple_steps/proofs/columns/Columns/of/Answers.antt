@@ -1,8 +1,0 @@
-use Rattle.std.proofs.Common.{◌^◌, arith, rules}
-use Rattle.triple_steps.proofs.ColumnLaws.{place_fits, all_below}
-use Rattle.triple_steps.proofs.columns.Columns.of.Goals as goal
-
-pub returns-clause-fit : goal.returns-clause-fit
-returns-clause-fit c = λ x l.
-    place_fits c.args.at c.args.first x (2 ^ 32) c.args.made.items (all_below (2 ^ 32) c.args.made.items (λ i h. search rules))
-    (let e = c.in_ok-sum.ensures in let f = c.in_ok-_end.ensures.small in omega (arith, e, f, l))

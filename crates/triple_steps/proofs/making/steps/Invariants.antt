@@ -1,5 +1,0 @@
-use Rattle.triple_steps.proofs.StepLaws.{StepsRead}
-use Rattle.triple_steps.proofs.making.steps.Given as goal
-
-abbrev pub invariant-loop-i : goal.invariant-loop-i
-invariant-loop-i l = StepsRead l.icfg l.path.word l.total l.i l.reading l.steps.items

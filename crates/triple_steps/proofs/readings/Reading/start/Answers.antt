@@ -1,6 +1,0 @@
-use Rattle.std.proofs.Common.{refl}
-use Rattle.triple_steps.proofs.ReadingLaws.{starts}
-use Rattle.triple_steps.proofs.readings.Reading.start.Goals as goal
-
-pub returns : goal.returns
-returns c = λ g w e. starts g w _ c.args.frame.now e refl c.in_ok-bounds_in.ensures refl c.new.ensures.items

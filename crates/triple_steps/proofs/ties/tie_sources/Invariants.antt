@@ -1,7 +1,0 @@
-use Rattle.std.proofs.Common.{◌≡◌, ◌++◌, map, take}
-use Rattle.triple_steps.specs.declared.sections.Tie.TheVariants.{Source}
-use Rattle.triple_steps.specs.declared.sections.Section.TheVariants.{Tie}
-use Rattle.triple_steps.proofs.ties.tie_sources.Given as goal
-
-abbrev pub invariant-loop-i : goal.invariant-loop-i
-invariant-loop-i l = l.sections.items ≡ l.initial.sections.items ++ map (λ c. Tie (Source c)) (take l.i l.columns)

@@ -1,4 +1,0 @@
-pub mod Classes
-pub mod Sections
-pub mod Steps
-pub mod Readings

@@ -1,7 +1,0 @@
-use Rattle.std.proofs.Common.{◌≡◌, ◌↔◌, ℕ, true, take}
-use Rattle.std.specs.Int.{◌∣◌}
-use Rattle.lin_rows.specs.Tightening.{all_divisible}
-use Rattle.triple_walks.proofs.leaves.content.Given as goal
-
-abbrev pub invariant-loop-term : goal.invariant-loop-term
-invariant-loop-term l = (d : ℕ) → (d ∣ l.divisor) ↔ (all_divisible d (take l.term-index l.terms) ≡ true)

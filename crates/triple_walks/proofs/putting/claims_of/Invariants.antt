@@ -1,6 +1,0 @@
-use Rattle.std.proofs.Common.{map, take}
-use Rattle.triple_walks.proofs.PuttingLaws.{AreMade, source_at}
-use Rattle.triple_walks.proofs.putting.claims_of.Given as goal
-
-abbrev pub invariant-loop-i : goal.invariant-loop-i
-invariant-loop-i l = AreMade l.tree (map source_at (take l.i l.step.sources.items)) l.claims.items

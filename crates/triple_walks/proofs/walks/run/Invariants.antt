@@ -1,8 +1,0 @@
-use Rattle.triple_walks.specs.Goals.{plain_goal}
-use Rattle.nested_refutations.specs.Refutations.{View, Gathered, TreeSpot, stops_at}
-use Rattle.nested_refutations.specs.Waiting.{GroupsWait}
-use Rattle.triple_walks.specs.Walking.{IsLed, IsAtHand, IsThere, HasCome}
-use Rattle.triple_walks.proofs.walks.run.Given as goal
-
-abbrev pub invariant-loop-i : goal.invariant-loop-i
-invariant-loop-i l = (v : View) (h : Gathered) (s : TreeSpot) → IsLed v l.guide → IsAtHand v l.guide h (plain_goal l.fn.goal) → IsThere v l.guide s (record { node = 0; depth = 0 }) → GroupsWait v h (stops_at v h.taken s) → HasCome v l.guide h (stops_at v h.taken s) l.walk

@@ -1,9 +1,0 @@
-pub mod Claims
-pub mod Exposing
-pub mod Goals
-pub mod Leaves
-pub mod Putting
-pub mod Spots
-pub mod Stops
-pub mod Telling
-pub mod Walking

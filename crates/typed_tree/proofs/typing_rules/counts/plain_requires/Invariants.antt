@@ -1,0 +1,11 @@
+use Rattle.std.proofs.Common.{◌≡◌, ◌≤◌, ◌+◌, ◌^◌, map, drop}
+use Rattle.typed_tree.specs.TypedView as view
+use Rattle.typed_tree.specs.TypingRules.Counts.{plain_requires}
+use Rattle.typed_tree.specs.TypingRules.Ties.CappedCounts.{capped}
+use Rattle.typed_tree.proofs.typing_rules.counts.plain_requires.Given as goal
+
+abbrev pub invariant-loop-said : goal.invariant-loop-said
+invariant-loop-said l = record {
+  within : l.count ≤ 2 ^ 32;
+  counted : capped (l.count + plain_requires (map view.specification (drop l.said-index l.specs))) ≡ capped (plain_requires (map view.specification l.specs));
+}

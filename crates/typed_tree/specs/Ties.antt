@@ -1,0 +1,4 @@
+pub mod FormView
+pub mod FormOrder
+pub mod BrokenOperation
+pub mod Merging

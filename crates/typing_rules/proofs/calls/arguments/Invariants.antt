@@ -1,9 +1,0 @@
-use Rattle.std.proofs.Common.{◌≡◌, map, drop}
-use Rattle.typed_tree.specs.Scope.{seen}
-use Rattle.typed_tree.specs.TypedView as view
-use Rattle.typing_rules.specs.Rules.{arguments_agree}
-use Rattle.typing_rules.proofs.calls.arguments.Given as goal
-
-abbrev pub invariant-loop-index : goal.invariant-loop-index
-invariant-loop-index l =
-    arguments_agree (seen l.frame.scope) (drop l.index l.params) (map view.expression (drop l.index l.values)) ≡ arguments_agree (seen l.frame.scope) l.params (map view.expression l.values)

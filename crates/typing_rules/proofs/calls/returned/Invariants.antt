@@ -1,7 +1,0 @@
-use Rattle.std.proofs.Common.{◌≡◌, drop}
-use Rattle.typed_tree.specs.Scope.{seen}
-use Rattle.typing_rules.specs.Rules.{results_agree}
-use Rattle.typing_rules.proofs.calls.returned.Given as goal
-
-abbrev pub invariant-loop-index : goal.invariant-loop-index
-invariant-loop-index l = results_agree (seen l.frame.scope) (drop l.index l.results) (drop l.index l.columns) ≡ results_agree (seen l.frame.scope) l.results l.columns

@@ -1,8 +1,0 @@
-use Rattle.std.proofs.Common.{◌≡◌, map, drop}
-use Rattle.std.specs.List.{list_all}
-use Rattle.typed_tree.specs.TypedView as view
-use Rattle.typing_rules.specs.Counts.{columns_fit}
-use Rattle.typing_rules.proofs.counts.all_columns_fit.Given as goal
-
-abbrev pub invariant-loop-counted : goal.invariant-loop-counted
-invariant-loop-counted l = list_all (columns_fit l.globals) (map view.procedure (drop l.counted-index l.procs)) ≡ list_all (columns_fit l.globals) (map view.procedure l.procs)

@@ -1,8 +1,0 @@
-use Rattle.std.proofs.Common.{◌≡◌, ◌-◌, ◌≤◌, drop}
-use Rattle.typing_rules.proofs.labels.Labels.leave.Given as goal
-
-abbrev pub invariant-loop-more : goal.invariant-loop-more
-invariant-loop-more l = record {
-  within : l._more - l.count ≤ l._more-end - l.count;
-  rest : l.self ≡ drop (l._more - l.count) l.fn.self;
-}

@@ -1,8 +1,0 @@
-use Rattle.std.proofs.Common.{◌≡◌, drop}
-use Rattle.std.specs.List.{list_all}
-use Rattle.boogie_tree.specs.Names.{is_spelled}
-use Rattle.typing_rules.specs.Texts.{texts}
-use Rattle.typing_rules.proofs.names.all_spelled.Given as goal
-
-abbrev pub invariant-loop-name : goal.invariant-loop-name
-invariant-loop-name l = list_all is_spelled (texts (drop l.name-index l.names)) ≡ list_all is_spelled (texts l.names)

@@ -1,9 +1,0 @@
-use Rattle.std.proofs.Common.{is_some, ap, ◌∙◌}
-use Rattle.typed_tree.specs.TypedView as view
-use Rattle.typing_rules.specs.Shape.{block_labels}
-use Rattle.typing_rules.proofs.LabelLaws.{counts_some}
-use Rattle.typing_rules.proofs.shape.counts_up.Goals as goal
-
-pub returns : goal.returns
-returns c =
-    c.is_some.ensures ∙ ap is_some c.block_labels.ensures ∙ counts_some 0 (block_labels (view.statements c.args.listed.now))

@@ -1,6 +1,0 @@
-use Rattle.std.proofs.Common.{◌≡◌, drop, not}
-use Rattle.std.specs.List.{list_all}
-use Rattle.typing_rules.proofs.shape.none_constant.Given as goal
-
-abbrev pub invariant-loop-variable : goal.invariant-loop-variable
-invariant-loop-variable l = list_all (λ v. not v.constant) (drop l.variable-index l.variables) ≡ list_all (λ v. not v.constant) l.variables

@@ -1,6 +1,0 @@
-use Rattle.std.proofs.Common.{◌≡◌, ◌++◌, map, drop}
-use Rattle.typing_rules.specs.ColumnKey.{column_key}
-use Rattle.typing_rules.proofs.targets.column_keys.Given as goal
-
-abbrev pub invariant-loop-column : goal.invariant-loop-column
-invariant-loop-column l = l.keys.items ++ map column_key (drop l.column-index l.columns) ≡ map column_key l.columns

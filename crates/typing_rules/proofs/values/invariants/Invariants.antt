@@ -1,9 +1,0 @@
-use Rattle.std.proofs.Common.{◌≡◌, map, drop}
-use Rattle.std.specs.List.{list_all}
-use Rattle.typed_tree.specs.Scope.{seen}
-use Rattle.typed_tree.specs.TypedView as view
-use Rattle.typing_rules.specs.Rules.{is_invariant}
-use Rattle.typing_rules.proofs.values.invariants.Given as goal
-
-abbrev pub invariant-loop-invariant : goal.invariant-loop-invariant
-invariant-loop-invariant l = list_all (is_invariant (seen l.scope)) (map view.invariant (drop l.invariant-index l.invariants)) ≡ list_all (is_invariant (seen l.scope)) (map view.invariant l.invariants)
