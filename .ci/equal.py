@@ -116,7 +116,7 @@ def groups(kind, files, read):
 def main():
     crates = TOP / "crates"
     all_groups = {
-        "definitions": groups("definitions", sorted(crates.glob("*/specs/*.antt")), definitions),
+        "definitions": groups("definitions", sorted(crates.glob("*/specs/**/*.antt")), definitions),
         "functions": groups("functions", sorted(crates.glob("*/src/**/*.rt")), functions),
     }
     if sys.argv[1:2] == ["--most"]:

@@ -1,6 +1,6 @@
 #!/usr/bin/env python3
 """Names the definitions that two modules of specs/ or more declare under one name, of those that are reached from the contract of the program's
-top call (automizer_top/specs/). Ends with status 1 where there is one.
+top call (the files of automizer_top/specs/, without its folders). Ends with status 1 where there is one.
 
 names.py [--count] prints each such name with its modules, or only how many definitions are reached."""
 import collections
@@ -19,14 +19,14 @@ class Module:
 
     def __init__(self, text):
         self.imported = {}
-        for home, names in re.findall(r"^\s*use Rattle\.([\w.']+?)\.\{([^}]*)\}", text, re.M):
+        for home, names in re.findall(r"^\s*(?:pub )?use Rattle\.([\w.']+?)\.\{([^}]*)\}", text, re.M):
             for name in filter(None, (n.strip() for n in names.split(","))):
                 parts = name.split(" as ")
                 self.imported[parts[-1].strip()] = (home, parts[0].strip())
         self.aliases = {alias: home for home, alias in re.findall(r"^\s*use Rattle\.([\w.']+) as (\w+)", text, re.M)}
         self.declares = {}
         last = None
-        for item in ITEM.split("\n" + re.sub(r"^\s*use .*$", "", text, flags=re.M))[1:]:
+        for item in ITEM.split("\n" + re.sub(r"^\s*(?:pub )?(?:use|mod) .*$", "", text, flags=re.M))[1:]:
             bare = item.lstrip()
             if item.startswith("  ") and re.match(r"pub [^\s:({]+ :", bare):  # a field belongs to its record
                 self.declares[last] += "\n" + bare
@@ -56,11 +56,15 @@ def modules():
 
 
 def reached(found):
-    """The definitions, each a module and a name, that those of the top call's crate lead to."""
-    seen, todo = set(), [(home, name) for home in found if home.startswith(TOP_CALL) for name in found[home].declares]
+    """The definitions, each a module and a name, that those of the top call lead to."""
+    tops = [home for home in found if home.startswith(TOP_CALL) and "." not in home.removeprefix(TOP_CALL)]
+    seen, todo = set(), [(home, name) for home in tops for name in found[home].declares]
     while todo:
         home, name = todo.pop()
-        if (home, name) in seen or home not in found or name not in found[home].declares:
+        if (home, name) in seen or home not in found:
+            continue
+        if name not in found[home].declares:  # a module may hand on what it imports
+            todo += [found[home].imported[name]] if name in found[home].imported else []
             continue
         seen.add((home, name))
         todo += [(of or home, cited) for of, cited in found[home].cites(name)]

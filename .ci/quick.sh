@@ -11,13 +11,14 @@ cites=$(git grep -nIE '\b(document|paper) 0[1-4]\b|\b0[1-4] section|\b(D([1-9]|[
 while read -r line; do
   name=${line%%:*}
   case "$name" in ''|\#*) continue ;; esac
-  for page in README.md docs/ARCHITECTURE.md; do
-    grep -q "\`$name\`" "$page" || wrong "$name is not in $page"
-  done
+  grep -q "\`$name\`" docs/ARCHITECTURE.md || wrong "$name is not in docs/ARCHITECTURE.md"
+  [ -s "crates/$name/README.md" ] || wrong "$name has no page crates/$name/README.md"
 done < crates.txt
+[ "$(wc -l < README.md)" -le 250 ] || wrong 'README.md has more than 250 lines'
 for path in $(grep -oE '(examples|docs|bench)/[A-Za-z0-9_./-]+' README.md | sort -u); do
   [ -e "${path%.}" ] || wrong "README.md names $path, which is not there"
 done
+nowhere=$(.ci/paths.py) || wrong "a page names what is not there: $nowhere"
 differs=$(.ci/crates.py) || wrong "docs/ARCHITECTURE.md says other crates than crates.txt: $differs"
 twice=$(.ci/equal.py --most 4 5) || wrong "more is said twice than before (.ci/equal.py --list): $twice"
 names=$(.ci/names.py) || wrong "one name means several things on the way from the top call's contract: $names"

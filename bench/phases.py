@@ -17,7 +17,7 @@ TOP = pathlib.Path(__file__).resolve().parent.parent
 PROGRAM = TOP / "crates" / "automizer" / "out" / "automizer"
 PHASES = {
     "lowering": ["boogie_parse::whole_text::parse", "boogie_types::resolving::resolve", "icfg_lower::programs::lower"],
-    "walks": ["concrete_walks::walks::Walk::next"],
+    "walks": ["race_rounds::concrete_walks::walks::Walk::next"],
     "refutations": ["path_decide::deciding::decided", "path_decide::deciding::late_path", "path_decide::deciding::lemma_path"],
     "predicates": ["nested_itp::making::interpolants"],
     "saturation": ["itp_automaton::settling::settle_all"],
