@@ -1,5 +1,5 @@
-mod Numbers
+pub mod Numbers
 pub mod Closed
-mod Bodies
-mod Numbering
+pub mod Bodies
+pub mod Numbering
 pub mod PlaceLaws

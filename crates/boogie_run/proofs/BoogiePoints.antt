@@ -7,7 +7,7 @@ pub mod ToldLaws
 pub mod SeekLaws
 pub mod WayLaws
 pub mod LabelLaws
-mod EitherLaws
-mod CountSteps
-mod SearchSteps
+pub mod EitherLaws
+pub mod CountSteps
+pub mod SearchSteps
 pub mod SiteLaws

@@ -1,5 +1,5 @@
-mod PlaceSites
+pub mod PlaceSites
 pub mod TraceLaws
-mod SiteSteps
-mod TellingLaws
-mod WorthLaws
+pub mod SiteSteps
+pub mod TellingLaws
+pub mod WorthLaws

@@ -4,7 +4,7 @@ pub mod FactLaws
 pub mod ConjunctLaws
 pub mod FitLaws
 pub mod EntryLaws
-mod RangeLaws
+pub mod RangeLaws
 pub mod SayingLaws
 pub mod Truths
 pub mod TreeWorth

@@ -7,7 +7,7 @@ pub mod ImportLemmas
 pub mod ConjoinedLemmas
 pub mod ResultLemmas
 pub mod EnsuredLemmas
-mod FilterTurns
+pub mod FilterTurns
 pub mod DemandLemmas
 pub mod GivenLemmas
 pub mod LetterLemmas

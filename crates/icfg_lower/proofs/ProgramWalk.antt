@@ -8,4 +8,4 @@ pub mod StartSteps
 pub mod Targets
 pub mod ReadForms
 pub mod WholeSteps
-mod HeadNumbers
+pub mod HeadNumbers

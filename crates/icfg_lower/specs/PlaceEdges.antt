@@ -1,3 +1,4 @@
 pub mod WalkedParts
 pub mod Forms
 pub mod Ties
+pub mod Faults

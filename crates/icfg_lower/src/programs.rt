@@ -11,7 +11,7 @@ ghost use Rattle.lowered_graph.specs.Arcs.{program_arcs};
 ghost use Rattle.lowered_graph.specs.Items as items;
 ghost use Rattle.lowered_graph.specs.Laws.{IsFaithful};
 ghost use Rattle.lowered_graph.specs.Lowered.{program_sites, lowered};
-ghost use Rattle.icfg_lower.specs.PlaceEdges.Ties.Faults.{plain_faults};
+ghost use Rattle.icfg_lower.specs.PlaceEdges.Faults.{plain_faults};
 
 use crate::building::graph;
 use crate::faults::LowerFault;

@@ -1,5 +1,5 @@
 pub mod SameActs
 pub mod KeyTests
 pub mod AddedActs
-mod CallArcs
-mod NewKeys
+pub mod CallArcs
+pub mod NewKeys

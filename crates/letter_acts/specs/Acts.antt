@@ -59,9 +59,8 @@ kind_of (back_act c targets) = kinds.Back
 
 -- the call letter that a letter with this act names: that of a return, else 0
 abbrev pub call_of : PlainAct → ℕ
-call_of (inside_act p written helpers rows) = 0
-call_of (call_act caller callee helpers rows) = 0
 call_of (back_act c targets) = c
+call_of act = 0
 
 -- the letter of the alphabet with this number and act
 abbrev pub letter_of : ℕ → PlainAct → Letter

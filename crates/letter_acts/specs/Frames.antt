@@ -45,8 +45,7 @@ pub record IsFrame (globals : List VarInfo) (frame : Columns) : Type 0 where
 
 abbrev pub is_global_column : Column → Bool
 is_global_column (Global n) = true
-is_global_column (Old n) = false
-is_global_column (Local n) = false
+is_global_column c = false
 
 abbrev pub is_old_column : Column → Bool
 is_old_column (Global n) = false
@@ -54,9 +53,8 @@ is_old_column (Old n) = true
 is_old_column (Local n) = false
 
 abbrev pub is_local_column : Column → Bool
-is_local_column (Global n) = false
-is_local_column (Old n) = false
 is_local_column (Local n) = true
+is_local_column c = false
 
 -- a constant or global
 abbrev pub is_global : (Column × VarInfo) → Bool
@@ -101,9 +99,8 @@ result_columns frame = places is_result 0 frame
 
 -- an old column at place n, with the column of its global, in front
 abbrev pub old_at : Column → ℕ → List (ℕ × ℕ) → List (ℕ × ℕ)
-old_at (Global g) n rest = rest
 old_at (Old g) n rest = (n, g) ∷ rest
-old_at (Local l) n rest = rest
+old_at c n rest = rest
 
 abbrev pub olds_from : ℕ → Columns → List (ℕ × ℕ)
 olds_from n [] = []

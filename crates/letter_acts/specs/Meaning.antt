@@ -57,32 +57,24 @@ IsIn al p s = (s.proc ≡ p) × (p < length al.frames)
 
 -- an inside act leads from s to t, both in its procedure
 abbrev pub ActInside : Alphabet → Option PlainAct → Situation → Situation → Type 0
-ActInside al None s t = ⊥
 ActInside al (Some (inside_act p written helpers rows)) s t =
     IsIn al p s × IsIn al p t × InsideLeads (frame_of al p) written helpers rows s.values t.values
-ActInside al (Some (call_act caller callee helpers rows)) s t = ⊥
-ActInside al (Some (back_act c targets)) s t = ⊥
+ActInside al act s t = ⊥
 
 -- a call act leads from s in the caller to t in the callee
 abbrev pub ActCalls : Alphabet → Option PlainAct → Situation → Situation → Type 0
-ActCalls al None s t = ⊥
-ActCalls al (Some (inside_act p written helpers rows)) s t = ⊥
 ActCalls al (Some (call_act caller callee helpers rows)) s t =
     IsIn al caller s × IsIn al callee t × CallLeads (frame_of al caller) (frame_of al callee) helpers rows s.values t.values
-ActCalls al (Some (back_act c targets)) s t = ⊥
+ActCalls al act s t = ⊥
 
 -- a return with these targets leads back from a call with this act
 abbrev pub ReturnsFrom : Alphabet → List ℕ → Option PlainAct → Situation → Situation → Situation → Type 0
-ReturnsFrom al targets None exit before after = ⊥
-ReturnsFrom al targets (Some (inside_act p written helpers rows)) exit before after = ⊥
 ReturnsFrom al targets (Some (call_act caller callee helpers rows)) exit before after =
     IsIn al callee exit × IsIn al caller before × IsIn al caller after ×
     BackLeads (frame_of al caller) (frame_of al callee) helpers rows targets exit.values before.values after.values
-ReturnsFrom al targets (Some (back_act c more)) exit before after = ⊥
+ReturnsFrom al targets act exit before after = ⊥
 
 -- a return act leads from the exit in the callee, and the situation before the call in the caller, to one in the caller
 abbrev pub ActReturns : Alphabet → Option PlainAct → Situation → Situation → Situation → Type 0
-ActReturns al None exit before after = ⊥
-ActReturns al (Some (inside_act p written helpers rows)) exit before after = ⊥
-ActReturns al (Some (call_act caller callee helpers rows)) exit before after = ⊥
 ActReturns al (Some (back_act c targets)) exit before after = ReturnsFrom al targets (slice_get al.acts c) exit before after
+ActReturns al act exit before after = ⊥

@@ -1,5 +1,5 @@
-mod WholeCalls
-mod LastStep
+pub mod WholeCalls
+pub mod LastStep
 pub mod ReadOff
-mod ToldLetters
+pub mod ToldLetters
 pub mod ToldTraces

@@ -15,6 +15,6 @@ pub mod MakingLaws
 pub mod TripleLaws
 pub mod SumLaws
 pub mod EndLaws
-mod PassSteps
-mod BranchSteps
-mod TableSteps
+pub mod PassSteps
+pub mod BranchSteps
+pub mod TableSteps

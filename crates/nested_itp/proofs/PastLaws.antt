@@ -27,7 +27,7 @@ use Rattle.nested_itp.specs.NestedPredicates.Sums.{root_of}
 use Rattle.nested_itp.specs.NestedPredicates.Interpolants.{RefutesRows}
 use Rattle.nested_itp.specs.NestedRefutations.Numbers.{Step, StepNumbersFit, steps_of, AreCutsAt}
 use Rattle.nested_itp.specs.NestedRefutations.Walked.{WalkedRefutes}
-use Rattle.nested_itp.specs.NestedRefutations.Ties.Cuts.{WalkedCuts}
+use Rattle.nested_itp.specs.NestedRefutations.Cuts.{WalkedCuts}
 use Rattle.triple_rows.specs.Cuts.{IsCutWithin}
 use Rattle.nested_itp.specs.NestedRefutations.Waiting.{StepWaits}
 use Rattle.nested_itp.proofs.NestedRefutations.InsideColumnLaws.{length-repeated}

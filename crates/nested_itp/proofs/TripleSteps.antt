@@ -5,4 +5,4 @@ pub mod BoundLaws
 pub mod ReadingLaws
 pub mod LetterLaws
 pub mod StepLaws
-mod JoinLaws
+pub mod JoinLaws

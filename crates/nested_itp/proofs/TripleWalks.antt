@@ -1,12 +1,12 @@
 pub mod AscendLaws
-mod ExposeLaws
-mod GoalLaws
-mod LeafLaws
-mod LeftLaws
+pub mod ExposeLaws
+pub mod GoalLaws
+pub mod LeafLaws
+pub mod LeftLaws
 pub mod ListedLaws
-mod PuttingLaws
-mod SecondLaws
-mod StopLaws
+pub mod PuttingLaws
+pub mod SecondLaws
+pub mod StopLaws
 pub mod TableLaws
 pub mod TellingLaws
-mod WalkLaws
+pub mod WalkLaws

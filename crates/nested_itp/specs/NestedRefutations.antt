@@ -2,4 +2,5 @@ pub mod Numbers
 pub mod Refutations
 pub mod Walked
 pub mod Waiting
-pub mod Ties
+pub mod Cuts
+pub mod Refuting

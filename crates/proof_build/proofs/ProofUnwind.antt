@@ -1,13 +1,13 @@
-mod GrowingLaws
-mod ExploringLaws
-mod OpeningLaws
-mod FollowingLaws
-mod SteppingLaws
-mod SpotLaws
-mod LoopLaws
-mod StageLaws
-mod OpenedLaws
-mod ImageLaws
-mod OrderLaws
-mod LinkLaws
-mod ListedEnds
+pub mod GrowingLaws
+pub mod ExploringLaws
+pub mod OpeningLaws
+pub mod FollowingLaws
+pub mod SteppingLaws
+pub mod SpotLaws
+pub mod LoopLaws
+pub mod StageLaws
+pub mod OpenedLaws
+pub mod ImageLaws
+pub mod OrderLaws
+pub mod LinkLaws
+pub mod ListedEnds

@@ -1,4 +1,4 @@
 pub mod MarkLaws
 pub mod OrderLaws
-mod Rows
+pub mod Rows
 pub mod ToldLaws

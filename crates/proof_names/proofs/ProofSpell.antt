@@ -1,8 +1,8 @@
 pub mod NumeralLaws
 pub mod CorrespondLaws
-mod ShapeLaws
+pub mod ShapeLaws
 pub mod NameLaws
-mod AtomLaws
+pub mod AtomLaws
 pub mod RefutationLaws
-mod TripleLaws
-mod DraftLaws
+pub mod TripleLaws
+pub mod DraftLaws

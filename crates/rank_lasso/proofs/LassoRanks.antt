@@ -2,4 +2,4 @@ pub mod WalkSets
 pub mod RankLaws
 pub mod CheckLaws
 pub mod SearchLaws
-mod Examples
+pub mod Examples

@@ -3,4 +3,4 @@ pub mod Steps
 pub mod ReadLetters
 pub mod Ways
 pub mod Told
-mod Turns
+pub mod Turns

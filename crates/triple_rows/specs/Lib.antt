@@ -6,3 +6,4 @@ pub mod Proofs
 pub mod Cuts
 pub mod Halves
 pub mod Ties
+pub mod Nodes

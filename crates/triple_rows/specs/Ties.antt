@@ -1,4 +1,3 @@
 pub mod Drafts
 pub mod Tables
 pub mod Known
-pub mod Nodes

@@ -51,7 +51,7 @@ impl Model for Pred {
     ghost use Rattle.std.specs.Prelude.{List};
     ghost use Rattle.triple_rows.specs.declared.predicates.PredNode.{PredNode};
     ghost use Rattle.triple_rows.specs.Predicates.{SpellsPredicate};
-    ghost use Rattle.triple_rows.specs.Ties.Nodes.{nodes_in};
+    ghost use Rattle.triple_rows.specs.Nodes.{nodes_in};
 
     ghost Value = { List PredNode };
 

@@ -12,6 +12,6 @@ pub mod LabelLaws
 pub mod ValidLaws
 pub mod SeenLaws
 pub mod GotoLaws
-mod LoopLaws
-mod CountLaws
-mod FrameLaws
+pub mod LoopLaws
+pub mod CountLaws
+pub mod FrameLaws

@@ -15,7 +15,7 @@ use Rattle.lowered_graph.specs.LoweredParts.Items.{site_of}
 use Rattle.lowered_graph.specs.LoweredParts.Parts.{Leads}
 use Rattle.lowered_graph.specs.LoweredParts.Making.{asserted, MakesItem}
 use Rattle.lowered_graph.proofs.LoweredParts.OneItem.{item_made, asserted_item}
-use Rattle.icfg_lower.specs.PlaceEdges.Ties.Faults.{fault_of}
+use Rattle.icfg_lower.specs.PlaceEdges.Faults.{fault_of}
 use Rattle.icfg_lower.specs.PlaceEdges.WalkedParts.{WalkedParts, walked}
 
 pub item_led : (at : Span) (arcs : List Arc) (needed : List Needed) (w b : Bool) (old mid new : WalkedParts) → Leads arcs needed w b (walked old) (walked mid) →

@@ -4,7 +4,7 @@ ghost use Rattle.std.specs.Prelude.{◌≡◌, ◌||◌, IfOk};
 ghost use Rattle.std.specs.Option.{option_map};
 ghost use Rattle.lowered_graph.specs.Items as items;
 ghost use Rattle.icfg_lower.specs.PlaceEdges.Ties.Answered.{IsTold};
-ghost use Rattle.icfg_lower.specs.PlaceEdges.Ties.Faults.{fault_of, plain_fault, plain_faults};
+ghost use Rattle.icfg_lower.specs.PlaceEdges.Faults.{fault_of, plain_fault, plain_faults};
 
 use boogie_tree::Span;
 use cond_jumps::JumpFault;

@@ -46,7 +46,7 @@ impl<'a> Model for Lowering<'a> {
     ghost use Rattle.typed_tree.specs.contracts.types.TExpr as expr;
     ghost use Rattle.typed_tree.specs.contracts.types.TStmt as stmt;
     ghost use Rattle.icfg_lower.specs.PlaceEdges.WalkedParts.{WalkedParts};
-    ghost use Rattle.icfg_lower.specs.PlaceEdges.Ties.Faults.{plain_faults};
+    ghost use Rattle.icfg_lower.specs.PlaceEdges.Faults.{plain_faults};
 
     ghost Value = { WalkedParts };
 
@@ -107,7 +107,7 @@ impl<'a> Lowering<'a> {
     ghost use Rattle.lowered_graph.specs.LoweredSteps.ProgramFrames.{frame_at};
     ghost use Rattle.lowered_graph.specs.LoweredSteps.Edges.{columns_before_locals, local_count, numbers_in};
     ghost use Rattle.icfg_lower.specs.ProgramLayout.Layouts.{StandsIn, marks_of};
-    ghost use Rattle.icfg_lower.specs.PlaceEdges.Ties.Faults.{fault_of, plain_faults};
+    ghost use Rattle.icfg_lower.specs.PlaceEdges.Faults.{fault_of, plain_faults};
     ghost use Rattle.icfg_lower.specs.PlaceEdges.WalkedParts.{walked};
 
     /// Nothing yet.

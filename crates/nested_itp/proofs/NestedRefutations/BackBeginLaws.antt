@@ -20,7 +20,7 @@ use Rattle.nested_itp.proofs.NestedPredicates.EndLaws.{rows_goal}
 use Rattle.nested_itp.specs.NestedPredicates.Simplifying.{is_same}
 use Rattle.nested_itp.specs.NestedRefutations.Refutations.{Claim, rows_in, said_at, Role, target_tie, source_tie, stands}
 use Rattle.nested_itp.specs.NestedRefutations.Numbers.{Step, branch_rows, spares, before_bounds, bounds_in, OpenCall, back_step, Reading, position_here, IsFalse, AreCutsAt}
-use Rattle.nested_itp.specs.NestedRefutations.Ties.Refuting.{StepRefutes}
+use Rattle.nested_itp.specs.NestedRefutations.Refuting.{StepRefutes}
 use Rattle.nested_itp.specs.NestedRefutations.Waiting.{StepWaits}
 use Rattle.nested_itp.proofs.NestedRefutations.TruthLaws.{IsOpen}
 use Rattle.nested_itp.proofs.NestedRefutations.SpotLaws.{spot, StandsIn, IsUncased, uncased_stands}

@@ -16,7 +16,7 @@ use Rattle.nested_itp.specs.NestedPredicates.Sums.{Branch, root_of}
 use Rattle.nested_itp.specs.NestedPredicates.Interpolants.{RefutesRows}
 use Rattle.nested_itp.proofs.NestedPredicates.EndLaws.{rows_goal, tree_refutes}
 use Rattle.nested_itp.specs.NestedRefutations.Numbers.{Step, inside_step, call_step, back_step, Reading, position_here, read_on, OpenCall, steps_back, step_by, steps_along, steps_of, AreCutsAt}
-use Rattle.nested_itp.specs.NestedRefutations.Ties.Refuting.{StepRefutes}
+use Rattle.nested_itp.specs.NestedRefutations.Refuting.{StepRefutes}
 use Rattle.nested_itp.specs.NestedRefutations.Waiting.{StepWaits}
 use Rattle.nested_itp.proofs.NestedRefutations.WordLaws.{HaveGlobals, global_count}
 use Rattle.nested_itp.proofs.NestedRefutations.AlongLaws.{first_reading, Along, along_start, along_next}

@@ -34,7 +34,7 @@ use Rattle.nested_itp.specs.NestedPredicates.Interpolants.{RefutesRows}
 use Rattle.nested_itp.proofs.NestedPredicates.EndLaws.{rows_goal, tree_refutes}
 use Rattle.nested_itp.specs.NestedRefutations.Refutations.{View, Stop, stops, leaf_from, rows_in}
 use Rattle.nested_itp.specs.NestedRefutations.Numbers.{Step, inside_step, call_step, back_step, Reading, position_here, read_on, OpenCall, steps_back, step_by, steps_along, steps_of, groups_from, LeafNumbersFit, IsFalse, begins, AreCutsAt}
-use Rattle.nested_itp.specs.NestedRefutations.Ties.Refuting.{StepRefutes}
+use Rattle.nested_itp.specs.NestedRefutations.Refuting.{StepRefutes}
 use Rattle.nested_itp.specs.NestedRefutations.Walked.{inside_gaps, call_gaps, return_gaps, back_gaps, gaps_of, false_row, IsWalked, TakesOr, WalkedRefutes}
 use Rattle.nested_itp.proofs.NestedRefutations.SpotLaws.{IsUncased}
 use Rattle.nested_itp.proofs.NestedRefutations.StopLaws.{refuted_uncased}

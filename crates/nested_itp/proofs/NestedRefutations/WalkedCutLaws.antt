@@ -16,7 +16,7 @@ use Rattle.nested_itp.specs.NestedPredicates.Sums.{Branch, root_of}
 use Rattle.nested_itp.specs.NestedRefutations.Refutations.{side_of, TreeSpot, low_side, high_side, truth_in, formula_at, Claim, Asked, one_part, both_parts, some_part, asked_at, View, Gathered, taken_at, Meeting, own_cut, told_by, meeting_of, Stop, at_leaf, at_cut, at_group, nowhere, followed, stop_at, stops, stops_at, with_own, opened}
 use Rattle.nested_itp.specs.NestedRefutations.Numbers.{Step, inside_step, call_step, back_step, Reading, position_here, read_on, OpenCall, steps_back, step_by, steps_along, steps_of, begins, AreCutsAt}
 use Rattle.nested_itp.specs.NestedRefutations.Walked.{AfterMembers, gaps_of, false_row, IsWalked, AreWalked, TakesOr}
-use Rattle.nested_itp.specs.NestedRefutations.Ties.Cuts.{WalkedCuts}
+use Rattle.nested_itp.specs.NestedRefutations.Cuts.{WalkedCuts}
 use Rattle.triple_rows.specs.Cuts.{inside_columns, call_columns, back_columns, columns_of, IsCutWithin}
 use Rattle.letter_acts.specs.Widths.{back_width}
 use Rattle.nested_itp.proofs.NestedRefutations.WayLaws.{is_own_meeting, is_own}

@@ -11,9 +11,9 @@ ghost use Rattle.path_rows.specs.Paths.{path_of};
 ghost use Rattle.nested_itp.specs.NestedPredicates.Stamps.{stamps_of};
 ghost use Rattle.nested_itp.specs.NestedPredicates.Interpolants.{RefutesRows};
 ghost use Rattle.nested_itp.specs.NestedRefutations.Numbers.{steps_of, AreCutsAt};
-ghost use Rattle.nested_itp.specs.NestedRefutations.Ties.Refuting.{StepRefutes};
+ghost use Rattle.nested_itp.specs.NestedRefutations.Refuting.{StepRefutes};
 ghost use Rattle.nested_itp.specs.NestedRefutations.Walked.{WalkedRefutes};
-ghost use Rattle.nested_itp.specs.NestedRefutations.Ties.Cuts.{WalkedCuts};
+ghost use Rattle.nested_itp.specs.NestedRefutations.Cuts.{WalkedCuts};
 ghost use Rattle.nested_itp.specs.NestedRefutations.Waiting.{StepWaits};
 
 /// Under a tree that refutes the rows of an accepted word, the leaves of the refutation of each letter's triple contradict the
