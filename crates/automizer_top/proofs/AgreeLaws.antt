@@ -13,7 +13,7 @@ use Rattle.letter_acts.specs.Feasible.{IsFeasible}
 use Rattle.letter_acts.specs.Invariant.{alphabet_of}
 use Rattle.typed_tree.specs.TypedTree.{TypedProgram}
 use Rattle.typed_tree.specs.TypingRules.ValidProgram.{is_valid}
-use Rattle.boogie_run.specs.Runs.{Fails, IsSafe}
+use Rattle.boogie_run.specs.RunRules.Runs.{Fails, IsSafe}
 use Rattle.lowered_graph.specs.Lowered.{lowered}
 use Rattle.lowered_graph.specs.Laws.{LoweringIsFaithful}
 use Rattle.trace_replay.specs.Replays.{Replays}

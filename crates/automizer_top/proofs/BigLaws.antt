@@ -2,7 +2,7 @@
 use Rattle.std.proofs.Common.{◌≡◌, ℕ, ◌+◌, List, [], ◌∷◌, length, Option, None, Some, Err, inl, inr, ◌⊎◌, ap, refl, sym, ◌∙◌, subst, arith}
 use Rattle.std.specs.Prelude.{Result, Ok, IfOk, IsErr, IfSome, codes}
 use Rattle.std.proofs.lemmas.Option.{none-some}
-use Rattle.boogie_run.specs.Runs.{IsSafe}
+use Rattle.boogie_run.specs.RunRules.Runs.{IsSafe}
 use Rattle.letter_acts.specs.Invariant.{Graph}
 use Rattle.boogie_tree.specs.Tree.{Declaration}
 use Rattle.typed_tree.specs.TypedTree.{TypedProgram}

@@ -4,7 +4,7 @@ use Rattle.std.specs.Prelude.{IsTrue, Contains}
 use Rattle.std.specs.List.{AllByRecursion}
 use Rattle.typed_tree.specs.TypedTree.{TypedProgram}
 use Rattle.typed_tree.specs.TypingRules.ValidProgram.{is_valid}
-use Rattle.boogie_run.specs.Runs.{IsSafe}
+use Rattle.boogie_run.specs.RunRules.Runs.{IsSafe}
 use Rattle.lowered_graph.specs.Laws.{LoweringIsFaithful}
 use Rattle.modular_cut.specs.Parts.{PlainPart, parts_of}
 use Rattle.modular_cut.specs.View.{IsValidPart}

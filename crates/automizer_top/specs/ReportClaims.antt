@@ -6,7 +6,7 @@ use Rattle.boogie_tree.specs.Tree.{Declaration}
 use Rattle.boogie_parse.specs.Rules.GrammarLimits.{IsProgram}
 use Rattle.typed_tree.specs.TypedTree.{TypedProgram}
 use Rattle.boogie_types.specs.Resolved.{resolved_program}
-use Rattle.boogie_run.specs.Runs.{Fails, IsSafe}
+use Rattle.boogie_run.specs.RunRules.Runs.{Fails, IsSafe}
 use Rattle.boogie_run.specs.declared.types.AssertId.{AssertId}
 use Rattle.proof_form.specs.Standing.{FirstWrongOfText}
 use Rattle.trace_replay.specs.FailureText.{PlainFailure}

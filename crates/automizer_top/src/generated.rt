@@ -1,7 +1,7 @@
 //! The mode `big`.
 
 ghost use Rattle.std.specs.Prelude.{◌≡◌, ◌≤◌, Some, IfOk, codes};
-ghost use Rattle.boogie_run.specs.Runs.{IsSafe};
+ghost use Rattle.boogie_run.specs.RunRules.Runs.{IsSafe};
 ghost use Rattle.typed_tree.specs.TypedTree.{TypedProgram};
 ghost use Rattle.typed_tree.specs.declared.fault.TypeFault.TheVariants.{Memory};
 ghost use Rattle.typed_tree.specs.TypingRules.TypedParts.{typed_program};

@@ -18,7 +18,7 @@ ghost use Rattle.race_core.specs.Races.{Race};
 ghost use Rattle.itp_automaton.specs.Certified.{Certificate};
 ghost use Rattle.race_verdicts.specs.declared.verdicts.Verdict.{Verdict};
 ghost use Rattle.typed_tree.specs.TypingRules.ValidProgram.{is_valid};
-ghost use Rattle.boogie_run.specs.Runs.{IsSafe};
+ghost use Rattle.boogie_run.specs.RunRules.Runs.{IsSafe};
 ghost use Rattle.race_rounds.specs.declared.limits.Limits.{Limits};
 ghost use Rattle.race_verdicts.specs.RaceCompleteness.Words.{HasWordsAmong};
 ghost use Rattle.rank_lasso.specs.LassoRanks.Lassos.{PlainLasso};

@@ -17,3 +17,4 @@ mod WriteSteps
 pub mod BoogiePoints
 pub mod BoogiePlaces
 pub mod RunDefaults
+pub mod RunRules

@@ -12,3 +12,4 @@ pub mod BoogiePoints
 pub mod BoogiePlaces
 pub mod RunDefaults
 pub mod Ties
+pub mod RunRules

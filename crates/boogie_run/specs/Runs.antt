@@ -1,4 +1,4 @@
--- Runs, and when a program is safe.
+-- Runs of the machine: one step after another, each with the choice that it takes.
 use Rattle.std.specs.Prelude.{◌≡◌, ℕ, ℤ, List, [], ◌∷◌, Option}
 use Rattle.typed_tree.specs.TypedTree.{TypedProgram}
 use Rattle.boogie_run.specs.Configurations.{Config}
@@ -13,10 +13,10 @@ abbrev pub run : TypedProgram → Config → List (Option ℤ) → Outcome
 run t c [] = Went c
 run t c (choice ∷ choices) = then_goes_on (step t c choice) (λ d. run t d choices)
 
--- some run fails the assertion of that number
-abbrev pub Fails : TypedProgram → ℕ → Type 0
-Fails t i = (choices : List (Option ℤ)) × (run t (start t) choices ≡ Failed i)
+-- some choices lead to the failure of the assertion of that number
+abbrev pub ChoicesFail : TypedProgram → ℕ → Type 0
+ChoicesFail t i = (choices : List (Option ℤ)) × (run t (start t) choices ≡ Failed i)
 
--- Safe: no run, of any length and any call stack, fails an assertion.
-abbrev pub IsSafe : TypedProgram → Type 0
-IsSafe t = (i : ℕ) → Fails t i → ⊥
+-- no choices, however many, lead to the failure of an assertion
+abbrev pub NoChoicesFail : TypedProgram → Type 0
+NoChoicesFail t = (i : ℕ) → ChoicesFail t i → ⊥

@@ -12,6 +12,7 @@ mod frames;
 pub mod laws;
 mod observing;
 pub mod run_defaults;
+pub mod run_rules;
 mod stepping;
 mod types;
 mod writing;

@@ -5,7 +5,7 @@ use Rattle.boogie_tree.specs.Tree.{Declaration}
 use Rattle.boogie_parse.proofs.Rules.WholeText.{one_program}
 use Rattle.typed_tree.specs.TypedTree.{TypedProgram}
 use Rattle.boogie_run.specs.declared.types.AssertId.{AssertId}
-use Rattle.boogie_run.specs.Runs.{Fails}
+use Rattle.boogie_run.specs.RunRules.Runs.{Fails}
 use Rattle.lowered_graph.specs.Lowered.{lowered}
 use Rattle.trace_replay.specs.FailureText.{PlainFailure}
 use Rattle.trace_replay.proofs.FailureLaws.{failure_text_injective}

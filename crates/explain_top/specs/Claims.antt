@@ -6,7 +6,7 @@ use Rattle.boogie_tree.specs.Tree.{Declaration}
 use Rattle.boogie_tree.specs.Printing.{program_text}
 use Rattle.boogie_parse.specs.Rules.GrammarLimits.{IsProgram}
 use Rattle.typed_tree.specs.TypedTree.{TypedProgram}
-use Rattle.boogie_run.specs.Runs.{Fails, IsSafe}
+use Rattle.boogie_run.specs.RunRules.Runs.{Fails, IsSafe}
 use Rattle.boogie_run.specs.declared.types.AssertId.{AssertId}
 use Rattle.nwa_base.specs.declared.letters.Letter.{Letter}
 use Rattle.nwa_base.specs.Runs.{IsAcceptingRun}

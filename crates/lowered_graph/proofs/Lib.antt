@@ -10,6 +10,7 @@ pub mod Alphabet
 pub mod Joined
 pub mod JoinedBack
 pub mod SiteNumbers
+pub mod ErrorWords
 pub mod RunsJoined
 pub mod GraphParts
 pub mod GraphEdges

@@ -31,6 +31,7 @@ use Rattle.letter_acts.specs.LetterTable.Letters.{MarkedAct, exact_act, inside_a
 use Rattle.lowered_graph.specs.LetterLaws.{InsideOf, CallOf}
 use Rattle.lowered_graph.specs.Lowered.{site, program_sites, lowered}
 use Rattle.lowered_graph.specs.Laws.{ErrorWord, IsExactWord, MachineJoins}
+use Rattle.lowered_graph.proofs.ErrorWords.{way_runs, error_way}
 use Rattle.lowered_graph.proofs.ActNumbers.{act_got}
 use Rattle.lowered_graph.proofs.LetterEdges.{HasInside, inside_lettered}
 use Rattle.lowered_graph.proofs.LetterSets.{insides_are, calls_are}
@@ -176,13 +177,15 @@ fails_word l t v i h =
     let apart = goes_apart (edges (lowered t).automaton) (meaning (letters_of t)) word [] r.open_calls (0, first) r.last goes in
     let place : Site = (site t r.owner i r.line).1 in
     let way : FeasibleWay (letters_of t) word = record { first = first; last = r.last.1; open_calls = seconds r.open_calls; begins = s.begins; goes = apart.1 } in
+    let edge_way = way_runs (edges (lowered t).automaton) word (firsts r.open_calls) 0 (error_place t i) (subst (λ (e : ℕ). Goes (edges (lowered t).automaton) [] 0 word (firsts r.open_calls) e) r.ends apart.0) in
     record {
       word = word;
-      open_calls = firsts r.open_calls;
+      run = edge_way.0;
       site = place;
       is_site = site_member (program_sites t) (site t r.owner i r.line) r.is_site;
       number = refl;
-      goes = subst (λ (e : ℕ). Goes (edges (lowered t).automaton) [] 0 word (firsts r.open_calls) e) r.ends apart.0;
+      goes = edge_way.1;
+      ends = edge_way.2;
       feasible = (feasible_by_way (letters_of t) word).1 way;
     }
 
@@ -276,7 +279,8 @@ way_fails l t v (a ∷ w) marks first after last h m i line s e =
 pub word_fails : (l : PlaceLaws) (t : TypedProgram) → IsTrue (is_valid t) → (i : ℕ) → (h : ErrorWord (lowered t) i) → IsExactWord (lowered t) h.word → MachineFailsExactly t i
 word_fails l t v i h marks =
     let way : FeasibleWay (letters_of t) h.word = (feasible_by_way (letters_of t) h.word).0 h.feasible in
-    let r = goes_together (edges (lowered t).automaton) (meaning (letters_of t)) h.word [] h.open_calls way.open_calls 0 h.site.place way.first way.last h.goes way.goes in
+    let edge_way = error_way (lowered t) i h in
+    let r = goes_together (edges (lowered t).automaton) (meaning (letters_of t)) h.word [] edge_way.0 way.open_calls 0 h.site.place way.first way.last edge_way.1 way.goes in
     let owner = member_site (program_sites t) h.site h.is_site in
     let n : ℕ = owner.0 in
     let place : h.site.place ≡ error_place t h.site.id.number = site_place t (n, h.site) owner.1 in

@@ -1,5 +1,5 @@
 -- What holds of the graph of every typed program.
-use Rattle.std.specs.Prelude.{◌≡◌, ℕ, false, IsTrue, List, []}
+use Rattle.std.specs.Prelude.{◌≡◌, ℕ, false, IsTrue, List, ◌∷◌, length, Some, slice_get}
 use Rattle.std.specs.List.{AllByRecursion}
 use Rattle.typed_tree.specs.TypedTree.{TypedProgram}
 use Rattle.typed_tree.specs.TypingRules.ValidProgram.{is_valid}
@@ -8,9 +8,9 @@ use Rattle.nwa_base.specs.Automata.{IsAutomaton}
 use Rattle.nwa_base.specs.Members.{Member}
 use Rattle.letter_acts.specs.declared.sites.Site.{Site}
 use Rattle.letter_acts.specs.Feasible.{IsFeasible, edges}
-use Rattle.letter_acts.specs.Ways.{Goes}
+use Rattle.letter_acts.specs.Ways.{GoesAlong}
 use Rattle.letter_acts.specs.Invariant.{Graph, IsGraph, alphabet_of, mark_at}
-use Rattle.boogie_run.specs.Runs.{Fails}
+use Rattle.boogie_run.specs.RunRules.Runs.{Fails}
 use Rattle.lowered_graph.specs.LoweredSteps.Stacks.{MachineFails, MachineFailsExactly}
 use Rattle.lowered_graph.specs.Lowered.{lowered}
 use Rattle.lowered_graph.specs.PlainPoints.{PointsArePlain}
@@ -19,11 +19,12 @@ use Rattle.letter_acts.specs.Widths.{ActsFit}
 -- Some feasible word has a run of the automaton that ends where assertion i fails.
 pub record ErrorWord (g : Graph) (i : ℕ) : Type 0 where
   pub word : List Letter
-  pub open_calls : List ℕ
+  pub run : List ℕ
   pub site : Site
   pub is_site : Member g.sites site
   pub number : site.id.number ≡ i
-  pub goes : Goes (edges g.automaton) [] g.automaton.start word open_calls site.place
+  pub goes : GoesAlong (edges g.automaton) word (g.automaton.start ∷ run)
+  pub ends : slice_get (g.automaton.start ∷ run) (length word) ≡ Some site.place
   pub feasible : IsFeasible (alphabet_of g) word
 
 -- no letter of the word is coarse

@@ -6,6 +6,7 @@ ghost use Rattle.lowered_graph.specs.Laws as law;
 use crate::lowered_imports::laws::points_of_typed_programs;
 use crate::lowered_runs::laws::machines_of_typed_programs;
 use boogie_run::boogie_places::laws::places_of_typed_programs;
+use boogie_run::run_rules::laws::machine_follows_rules;
 
 /// Equal acts are one letter: the list of acts has no act twice and only grows, and the edges by letters are exactly those of the
 /// arcs, each by the letter of its act.
@@ -31,6 +32,7 @@ pub fn machine_runs_are_words()
 pub fn lowering_is_faithful()
     ensures { law.LoweringIsFaithful }
 {
+    machine_follows_rules();
     machine_runs_are_words();
     machines_of_typed_programs();
 }

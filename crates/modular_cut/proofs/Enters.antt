@@ -18,7 +18,7 @@ use Rattle.boogie_run.specs.BoogiePoints.Actions.{Action, action_at, plain_condi
 use Rattle.boogie_run.specs.BoogiePoints.Starts.{point_of_procedure, point_of_call, unless_none, start_point_of}
 use Rattle.boogie_run.specs.Configurations.{Config, state_of}
 use Rattle.boogie_run.specs.Needs.{locals_at, need_of_action, is_taken}
-use Rattle.boogie_run.specs.Runs.{IsSafe}
+use Rattle.boogie_run.specs.Runs.{NoChoicesFail}
 use Rattle.boogie_run.specs.Steps.{Went, Blocked, values, is_true, moved_to, passed_state, entered, start, act}
 use Rattle.lowered_graph.specs.LoweredSteps.ProgramFrames.{frame_at}
 use Rattle.lowered_graph.specs.LoweredSteps.Moves.{HasTypes, IsGood, IsMove, IsNoImport, IsKnownCall, KnowsPoints, filled}
@@ -200,7 +200,7 @@ before_none (y ∷ ys) (suc j) (suc k) x n e = let h = before_none ys j k x n e 
 
 -- the parts are valid and safe
 abbrev pub AreSafe : TypedProgram → Type 0
-AreSafe t = (n : ℕ) (q : TypedProcedure) (b : TypedBlock) → slice_get t.procs n ≡ Some q → q.body ≡ Some b → IsTrue (is_valid (procedure_part t n)) × IsSafe (procedure_part t n)
+AreSafe t = (n : ℕ) (q : TypedProcedure) (b : TypedBlock) → slice_get t.procs n ≡ Some q → q.body ≡ Some b → IsTrue (is_valid (procedure_part t n)) × NoChoicesFail (procedure_part t n)
 
 module _ (t : TypedProgram) (valid : IsTrue (is_valid t)) (every : AreSafe t) where
   -- what was shown at the call is true at the entry

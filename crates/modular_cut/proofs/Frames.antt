@@ -16,7 +16,7 @@ use Rattle.boogie_run.specs.BoogiePoints.Actions as actions
 use Rattle.boogie_run.specs.BoogiePoints.Actions.{Action, action_at, plain_conditions, ensured_conditions}
 use Rattle.boogie_run.specs.Configurations.{Frame, Config, state_of}
 use Rattle.boogie_run.specs.Needs.{Need, locals_if_any, locals_at, is_taken}
-use Rattle.boogie_run.specs.Runs.{IsSafe}
+use Rattle.boogie_run.specs.Runs.{NoChoicesFail}
 use Rattle.boogie_run.specs.Steps.{is_true, moved_to}
 use Rattle.lowered_graph.specs.LoweredSteps.Moves.{HasTypes, IsGood, IsMove, filled}
 use Rattle.lowered_graph.proofs.LoweredSteps.Goodness.{append_none, done_is}
@@ -44,9 +44,9 @@ pub record PartFor (t : TypedProgram) (n : ℕ) : Type 0 where
   pub own : slice_get parts n ≡ Some (own_procedure r procedure)
   pub calls : Renumbers t.procs parts r
   pub valid : IsTrue (is_valid (part_program t n parts))
-  pub safe : IsSafe (part_program t n parts)
+  pub safe : NoChoicesFail (part_program t n parts)
 
-abbrev pub part_for : (t : TypedProgram) (n : ℕ) (q : TypedProcedure) (b : TypedBlock) → slice_get t.procs n ≡ Some q → q.body ≡ Some b → IsTrue (is_valid (procedure_part t n)) × IsSafe (procedure_part t n) → PartFor t n
+abbrev pub part_for : (t : TypedProgram) (n : ℕ) (q : TypedProcedure) (b : TypedBlock) → slice_get t.procs n ≡ Some q → q.body ≡ Some b → IsTrue (is_valid (procedure_part t n)) × NoChoicesFail (procedure_part t n) → PartFor t n
 part_for t n q b is has good =
     let same : procedure_part t n ≡ part_program t n (part_procs t n q is) = ap (part_program t n) (procs_are t n q is) in
     record {
@@ -59,7 +59,7 @@ part_for t n q b is has good =
       own = own_is t n q is;
       calls = renumbered t n q is;
       valid = subst (λ (u : TypedProgram). IsTrue (is_valid u)) same good.0;
-      safe = subst IsSafe same good.1;
+      safe = subst NoChoicesFail same good.1;
     }
 
 pub locals_same : (t : TypedProgram) (n : ℕ) (p : PartFor t n) → locals_at (part_program t n p.parts) n ≡ locals_at t n

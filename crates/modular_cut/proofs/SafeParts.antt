@@ -3,7 +3,7 @@ use Rattle.std.proofs.Common.{◌≡◌, ℕ, zero, suc, ◌+◌, List, [], ◌�
 use Rattle.std.specs.List.{AllByRecursion}
 use Rattle.typed_tree.specs.TypedTree.{TypedBlock, TypedProcedure, TypedProgram}
 use Rattle.typed_tree.specs.TypingRules.ValidProgram.{is_valid}
-use Rattle.boogie_run.specs.Runs.{IsSafe}
+use Rattle.boogie_run.specs.RunRules.Runs.{IsSafe}
 use Rattle.modular_cut.specs.Parts.{PlainPart, procedure_part, part_if, parts_from_number, parts_of}
 use Rattle.modular_cut.proofs.Whole.{parts_suffice}
 

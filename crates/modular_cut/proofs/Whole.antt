@@ -12,7 +12,8 @@ use Rattle.boogie_run.specs.BoogiePoints.Actions.{Action, next_part, unseen_acti
 use Rattle.boogie_run.specs.BoogiePoints.Starts.{point_of_procedure, unless_none, start_point_of}
 use Rattle.boogie_run.specs.Configurations.{Config, state_of}
 use Rattle.boogie_run.specs.Needs.{locals_at}
-use Rattle.boogie_run.specs.Runs.{IsSafe}
+use Rattle.boogie_run.specs.Runs.{NoChoicesFail}
+use Rattle.boogie_run.proofs.RunRules.Safety.{safe_by_rules, safe_by_choices}
 use Rattle.boogie_run.specs.Steps.{Went, Blocked, Failed, is_true, moved_to, act}
 use Rattle.lowered_graph.specs.LoweredSteps.Moves.{HasTypes, IsGood, IsMove, IsNoImport, KnowsPoints}
 use Rattle.lowered_graph.proofs.LoweredSteps.Goodness.{done_is}
@@ -178,7 +179,7 @@ module _ (t : TypedProgram) (valid : IsTrue (is_valid t)) (every : AreSafe t) wh
           axioms = axioms_at t valid state (record { globals = gs; old = gs; locals = [] }) (λ k w o const. refl) t.axioms (axioms_typed t valid) axioms;
         }) s.breaks
 
-  no_failure : IsSafe t
+  no_failure : NoChoicesFail t
   no_failure i (choices, f) =
       let know : KnowsPoints t (IsPointOf t) = knows_points t valid in
       let b : Begun t i = begun_by t i choices [] (none_so_far t.globals) f in
@@ -194,4 +195,4 @@ module _ (t : TypedProgram) (valid : IsTrue (is_valid t)) (every : AreSafe t) wh
       starts_unbroken p b.globals r.more i m.0 b.typed r.typed g m.1
 
 pub parts_suffice : PartsSuffice
-parts_suffice t valid every = no_failure t valid every
+parts_suffice t valid every = safe_by_rules t (no_failure t valid (λ n q b is has. ((every n q b is has).0, safe_by_choices (procedure_part t n) (every n q b is has).1)))

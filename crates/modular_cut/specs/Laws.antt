@@ -4,7 +4,7 @@ use Rattle.std.specs.List.{list_all}
 use Rattle.boogie_tree.specs.Names.{is_name}
 use Rattle.typed_tree.specs.TypedTree.{TypedBlock, TypedProcedure, TypedProgram}
 use Rattle.typed_tree.specs.TypingRules.ValidProgram.{is_typed, is_valid}
-use Rattle.boogie_run.specs.Runs.{IsSafe}
+use Rattle.boogie_run.specs.RunRules.Runs.{IsSafe}
 use Rattle.modular_cut.specs.Parts.{procedure_part}
 
 -- A part keeps the typing rules, where the names of the procedures are names of the language: that of the copy is none.

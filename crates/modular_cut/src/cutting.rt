@@ -8,7 +8,7 @@ ghost use Rattle.typed_tree.specs.TypedView as view;
 ghost use Rattle.typed_tree.specs.TypingRules.Rules.{meets};
 ghost use Rattle.typed_tree.specs.TypingRules.TypedParts.{typed_program};
 ghost use Rattle.typed_tree.specs.TypingRules.ValidProgram.{has_body, is_typed, is_valid};
-ghost use Rattle.boogie_run.specs.Runs.{IsSafe};
+ghost use Rattle.boogie_run.specs.RunRules.Runs.{IsSafe};
 ghost use Rattle.modular_cut.specs.Parts as spec;
 ghost use Rattle.modular_cut.specs.FreeConditions.{free_spans, IsFirstFree};
 ghost use Rattle.modular_cut.specs.View.{plain_part, IsValidPart};

@@ -1,7 +1,7 @@
 -- The code's answers to texts as contracts see them, and what is so of a text that is answered.
 use Rattle.std.specs.Prelude.{◌≡◌, ◌<◌, ◌^◌, ℕ, List, None}
 use Rattle.typed_tree.specs.TypedTree.{TypedProgram}
-use Rattle.boogie_run.specs.Runs.{IsSafe}
+use Rattle.boogie_run.specs.RunRules.Runs.{IsSafe}
 use Rattle.nwa_base.specs.declared.letters.Letter.{Letter}
 use Rattle.nwa_base.specs.Acceptance.{Accepts}
 use Rattle.letter_acts.specs.Feasible.{IsFeasible}

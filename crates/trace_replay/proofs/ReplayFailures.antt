@@ -3,12 +3,12 @@ use Rattle.std.proofs.Common.{◌≡◌, ℕ, suc, ◌<◌, ℤ, List, [], ◌�
 use Rattle.typed_tree.specs.TypedTree.{TypedProgram}
 use Rattle.boogie_run.specs.Configurations.{Config}
 use Rattle.boogie_run.specs.Steps.{Outcome, Went, Blocked, Failed, Ended, Refused, start, step}
-use Rattle.boogie_run.specs.Runs.{then_goes_on, run, Fails}
+use Rattle.boogie_run.specs.Runs.{then_goes_on, run, ChoicesFail}
 use Rattle.trace_replay.specs.Replays.{choices_among, StepsFit, Replays}
 use Rattle.trace_replay.proofs.ReplaySteps.{run_more}
 
--- what replays is a run that fails
-pub replays_fails : (t : TypedProgram) (n : ℕ) (choices : List ℤ) (i : ℕ) → Replays t n choices i → Fails t i
+-- the choices of what replays fail
+pub replays_fails : (t : TypedProgram) (n : ℕ) (choices : List ℤ) (i : ℕ) → Replays t n choices i → ChoicesFail t i
 replays_fails t n choices i r =
     (r.taken ++ r.last ∷ [], run_more t (start t) r.before r.taken r.last r.leads ∙ ap (λ o. then_goes_on o (λ e. Went e)) r.fails)
 

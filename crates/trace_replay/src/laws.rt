@@ -4,12 +4,15 @@ ghost use Rattle.trace_replay.specs.FailureText.{PlainFailure, IsInBounds, failu
 ghost use Rattle.trace_replay.specs.FailureFaults.{IsFirstFault};
 ghost use Rattle.typed_tree.specs.TypedTree.{TypedProgram};
 ghost use Rattle.boogie_run.specs.Steps.{Failed, start};
-ghost use Rattle.boogie_run.specs.Runs.{run, Fails};
+ghost use Rattle.boogie_run.specs.Runs.{run};
+ghost use Rattle.boogie_run.specs.RunRules.Runs.{Fails};
 ghost use Rattle.trace_replay.specs.declared.causes.ReplayCause.{ReplayCause};
 ghost use Rattle.trace_replay.specs.Replays.{StepsFit, Replays};
 ghost use Rattle.trace_replay.specs.ReplayCauses.{StopsAt};
 ghost use Rattle.trace_replay.specs.Tried.{TriedFails, TriedEnd, IsTriedEnd};
 ghost use Rattle.trace_replay.specs.Guesses.{FailsWith};
+
+use boogie_run::run_rules::laws::machine_follows_rules;
 
 /// Failures with one text are one.
 pub fn failure_texts_are_one_to_one()
@@ -44,7 +47,9 @@ pub fn one_cause()
 /// What replays is a run that fails, so the program is not safe.
 pub fn what_replays_fails()
     ensures { (t : TypedProgram) (n : ℕ) (choices : List ℤ) (i : ℕ) → Replays t n choices i → Fails t i }
-{}
+{
+    machine_follows_rules();
+}
 
 /// A run that fails replays by its choices, where each value on the way fits.
 pub fn failing_runs_replay()

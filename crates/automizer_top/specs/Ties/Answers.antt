@@ -2,7 +2,7 @@
 use Rattle.std.specs.Prelude.{◌≡◌, ◌⊎◌, ℕ, List, [], ◌∷◌, Some, codes}
 use Rattle.outer_io.specs.Texts.{text_named}
 use Rattle.typed_tree.specs.TypedTree.{TypedProgram}
-use Rattle.boogie_run.specs.Runs.{IsSafe}
+use Rattle.boogie_run.specs.RunRules.Runs.{IsSafe}
 use Rattle.boogie_types.specs.Resolved.{resolved_program}
 use Rattle.letter_acts.specs.Invariant.{Graph, IsGraph}
 use Rattle.lowered_graph.specs.Lowered.{lowered}

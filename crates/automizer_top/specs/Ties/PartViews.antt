@@ -4,7 +4,7 @@ use Rattle.std.specs.List.{AllByRecursion}
 use Rattle.std.specs.Borrow.{Bor}
 use Rattle.boogie_tree.specs.declared.span.Span.{Span}
 use Rattle.typed_tree.specs.TypedTree.{TypedProgram}
-use Rattle.boogie_run.specs.Runs.{IsSafe}
+use Rattle.boogie_run.specs.RunRules.Runs.{IsSafe}
 use Rattle.letter_acts.specs.Invariant.{Graph}
 use Rattle.lowered_graph.specs.Items.{ItemFault}
 use Rattle.modular_cut.specs.declared.cutting.Part.{Part}

@@ -7,7 +7,7 @@ use Rattle.boogie_run.specs.BoogiePoints.Actions.{action_at}
 use Rattle.boogie_run.specs.Configurations.{Config, state_of}
 use Rattle.boogie_run.specs.Needs.{locals_at}
 use Rattle.boogie_run.specs.Steps.{Failed, start}
-use Rattle.boogie_run.specs.Runs.{run, Fails}
+use Rattle.boogie_run.specs.Runs.{run, ChoicesFail}
 use Rattle.lowered_graph.specs.LoweredSteps.ProgramFrames.{frame_at, variable_values}
 use Rattle.lowered_graph.specs.LoweredSteps.Edges.{At, Wrong}
 use Rattle.lowered_graph.specs.LoweredSteps.Stacks.{Stack, IsStep, inside, call, back, IsStart, Reaches, MachineFails, ExactlyReaches, MachineFailsExactly}
@@ -74,7 +74,7 @@ module _ (t : TypedProgram) (Known : ℕ → Point → Type 0) (know : KnowsPoin
     below = tt;
   }
 
-  pub fails_machine : Fails t i → MachineFails t i
+  pub fails_machine : ChoicesFail t i → MachineFails t i
   fails_machine (choices, f) =
       let b : Begun t i = begun_by t i choices [] (none_so_far t.globals) f in
       let r : Filled t i (begun t b.globals) b.rest = filled_by t i b.rest (begun t b.globals) b.typed (none_so_far (locals_at t t.entry)) b.fails in
@@ -131,7 +131,7 @@ module _ (t : TypedProgram) (Known : ℕ → Point → Type 0) (know : KnowsPoin
   pub start_runs : (gs ls : List ℤ) (rest : List (Option ℤ)) → HasTypes t.globals gs → HasTypes (locals_at t t.entry) ls → run t (start t) (map Some gs ++ (map Some ls ++ rest)) ≡ run t (first t gs ls) rest
   start_runs gs ls rest g l = run_begun t [] gs (map Some ls ++ rest) g ∙ run_filled t (begun t gs) ls rest g l
 
-  pub machine_fails : MachineFailsExactly t i → Fails t i
+  pub machine_fails : MachineFailsExactly t i → ChoicesFail t i
   machine_fails (k, x, s, r) =
       let st : IsStarted x = started x s in
       let c : Config = first t st.globals st.locals in

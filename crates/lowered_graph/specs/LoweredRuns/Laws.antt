@@ -3,14 +3,14 @@ use Rattle.std.specs.Prelude.{◌≡◌, ℕ, List, IsTrue}
 use Rattle.typed_tree.specs.TypedTree.{TypedProgram}
 use Rattle.typed_tree.specs.TypingRules.ValidProgram.{is_valid}
 use Rattle.boogie_run.specs.Steps.{Failed, start}
-use Rattle.boogie_run.specs.Runs.{run, Fails}
+use Rattle.boogie_run.specs.Runs.{run, ChoicesFail}
 use Rattle.lowered_graph.specs.LoweredSteps.Stacks.{Stack, IsStart, MachineFails, MachineFailsExactly}
 use Rattle.lowered_graph.specs.LoweredRuns.Choices.{ToldStep, AreToldSteps, machine_choices}
 
 -- Where some run of a typed program fails an assertion, so does its stack machine; and where the machine fails it by exact steps, some run does.
 pub record FailsAsRuns (t : TypedProgram) (i : ℕ) : Type 0 where
-  pub follows : Fails t i → MachineFails t i
-  pub leads : MachineFailsExactly t i → Fails t i
+  pub follows : ChoicesFail t i → MachineFails t i
+  pub leads : MachineFailsExactly t i → ChoicesFail t i
 
 abbrev pub MachinesFailAsRuns : Type 0
 MachinesFailAsRuns = (t : TypedProgram) (i : ℕ) → IsTrue (is_valid t) → FailsAsRuns t i

@@ -1,0 +1,14 @@
+pub mod Stretches
+pub mod Scenes
+pub mod Acting
+pub mod Control
+pub mod Writing
+pub mod Simple
+pub mod Loops
+pub mod Calls
+pub mod Unseen
+pub mod Returns
+pub mod Whole
+pub mod Starting
+pub mod Agreements
+pub mod Safety
