@@ -14,6 +14,7 @@ use Rattle.boogie_run.specs.Configurations.{Config, state_of}
 use Rattle.boogie_run.specs.Needs.{locals_at}
 use Rattle.boogie_run.specs.Runs.{NoChoicesFail}
 use Rattle.boogie_run.proofs.RunRules.Safety.{safe_by_rules, safe_by_choices}
+use Rattle.modular_cut.specs.Parts.{procedure_part}
 use Rattle.boogie_run.specs.Steps.{Went, Blocked, Failed, is_true, moved_to, act}
 use Rattle.lowered_graph.specs.LoweredSteps.Moves.{HasTypes, IsGood, IsMove, IsNoImport, KnowsPoints}
 use Rattle.lowered_graph.proofs.LoweredSteps.Goodness.{done_is}

@@ -7,7 +7,7 @@ use Rattle.boogie_run.specs.Runs.{run, ChoicesFail}
 use Rattle.lowered_graph.specs.LoweredSteps.Stacks.{Stack, IsStart, MachineFails, MachineFailsExactly}
 use Rattle.lowered_graph.specs.LoweredRuns.Choices.{ToldStep, AreToldSteps, machine_choices}
 
--- Where some run of a typed program fails an assertion, so does its stack machine; and where the machine fails it by exact steps, some run does.
+-- Where some choices lead a typed program to the failure of an assertion, its stack machine fails it; and where the machine fails it by exact steps, some choices do.
 pub record FailsAsRuns (t : TypedProgram) (i : ℕ) : Type 0 where
   pub follows : ChoicesFail t i → MachineFails t i
   pub leads : MachineFailsExactly t i → ChoicesFail t i

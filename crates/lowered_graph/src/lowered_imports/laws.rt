@@ -18,8 +18,8 @@ pub fn imports_in_runs()
     ensures back { law.RunsImport }
 {}
 
-/// In the stack machine a whole call is one step of the stacks that show its configurations, and each step from a stack at such a call is a
-/// whole call: the values that it chose are those of the state behind it and of its helpers.
+/// In the stack machine a whole call is one step of the stacks that show its configurations, and each exact step from a stack at such a call is
+/// a whole call: the values that it chose are those of the state behind it and of its helpers.
 pub fn imports_in_machines()
     ensures go { law.ImportsGo }
     ensures back { law.ImportsBack }
