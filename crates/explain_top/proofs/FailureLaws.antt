@@ -6,6 +6,7 @@ use Rattle.boogie_parse.proofs.Rules.WholeText.{one_program}
 use Rattle.typed_tree.specs.TypedTree.{TypedProgram}
 use Rattle.boogie_run.specs.declared.types.AssertId.{AssertId}
 use Rattle.boogie_run.specs.RunRules.Runs.{Fails}
+use Rattle.boogie_run.proofs.RunRules.Safety.{machine_follows_rules}
 use Rattle.lowered_graph.specs.Lowered.{lowered}
 use Rattle.trace_replay.specs.FailureText.{PlainFailure}
 use Rattle.trace_replay.proofs.FailureLaws.{failure_text_injective}
@@ -61,7 +62,7 @@ module _ (program : List ℕ) (all : Bool) (t : TypedProgram) (x : List ℕ) whe
   pub told_fails : (a : Answer) → ExplainsFailure program all t x a → a.status ≡ 0 → (i : ℕ) × Fails t i
   told_fails a (no_failure line wrong is) zero = absurd (one_is_not_zero a (ap (λ (b : Answer). b.status) is) zero)
   told_fails a (stopped f step cause h s is) zero = absurd (one_is_not_zero a (ap (λ (b : Answer). b.status) is) zero)
-  told_fails a (of_failure f id ds story h spelled told is) zero = (id.number, replays_fails t f.steps f.choices id.number told.run)
+  told_fails a (of_failure f id ds story h spelled told is) zero = (id.number, (machine_follows_rules t id.number).0 (replays_fails t f.steps f.choices id.number told.run))
 
   -- a replay of the same failure
   pub follows_failure : (entry : List ℕ) (a b : Answer) → IsTypedText entry program t → ReportsFailure t x a → ExplainsFailure program all t x b →
