@@ -29,7 +29,7 @@ pub enum Which {
     Nesting,
     /// 1,000 procedure declarations.
     Procedures,
-    /// 1,000 variables.
+    /// 1,000 variables in one declaration.
     Variables,
 }
 

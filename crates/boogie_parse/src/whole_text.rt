@@ -30,9 +30,10 @@ fn end_of(text: &[u8]) -> Span
 
 /// The program that a text spells; else the first fault.
 ///
-/// A fault of the tokens comes before all others. `Syntax` stands at the first token that can't stand there, or just past the
-/// text's end. `Limit` stands at the first token that goes past a limit: 200 open parentheses, 200 open blocks, an expression
-/// 200 deep, 1,000 variables in one declaration, 1,000 procedures. Takes time and memory linear in the text.
+/// A fault of the tokens comes before all others. The first of the others is told where the reading of the grammar comes upon it:
+/// `Syntax` at a token that can't stand there, or just past the text's end; `Limit` at a token that goes past a limit: 200 open
+/// parentheses, 200 open blocks, an expression 200 deep, 1,000 variables in one declaration, 1,000 procedures. Takes time and
+/// memory linear in the text.
 pub fn parse(alloc: Global, text: &[u8]) -> Result<Program, Fault>
     requires short { length text.now + 1 < 2 ^ 32 }
     ensures read { Gives program result (read_text text.now) }

@@ -21,7 +21,7 @@ pub use pieces::{append, literal, truth, variable};
 use std::alloc::{AllocError, Global};
 
 /// The canonical text of a program: one line for each item, two spaces further in for each open block, and parentheses
-/// exactly where the text would else be another tree.
+/// where an operator binds less than its place asks for.
 pub fn print(alloc: Global, program: &Program) -> Result<Vec<u8>, AllocError>
     ensures text { IfOk result (λ text. text.items ≡ program_text (view.program program.now)) }
 {

@@ -14,8 +14,10 @@ use crate::stepping::expand;
 use nwa_base::Nwa;
 use std::alloc::{AllocError, Global};
 
-/// An automaton that accepts a word exactly where `first` does and `second` does not. Words lead to each of its states from its start.
-/// States are left out where a cover shows that `second` accepts whatever `first` does from there on.
+/// An automaton that accepts a word exactly where `first` does and `second` does not.
+///
+/// It is made from its start on, state by state as words reach them, and no state is made where a cover shows that `second`
+/// accepts whatever `first` does from there on.
 pub fn difference(alloc: Global, first: &Nwa, second: &Nwa) -> Result<Nwa, AllocError>
     ensures { IfOk result (λ d. (w : List Letter) → Accepts d w ↔ (Accepts first.now w × (Accepts second.now w → ⊥))) }
 {

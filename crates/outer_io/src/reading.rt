@@ -63,7 +63,7 @@ pub fn read_all<H: Shelf>(
     ensures takes { IfSome (H.texts shelf.old) (λ shown. IfSome (text_named name.now shown) (λ text.
         TakesAtMost (limit + 1) text (H.left shelf.new)
         ⊎ (result ≡ Err ReadFault.Read) × (H.left shelf.new ≡ H.left shelf.old))) }
-    // A text that is too long is not said to want memory.
+    // Where memory is wanting no more than the limit was taken.
     ensures out_of_memory { result ≡ Err ReadFault.Memory → IfSome (H.texts shelf.old)
         (λ shown. IfSome (text_named name.now shown) (λ text. TakesAtMost limit text (H.left shelf.new))) }
     ensures fault { result ≡ Err ReadFault.Read → Rose (H.faults shelf.old) (H.faults shelf.new) }

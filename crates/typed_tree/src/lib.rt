@@ -1,4 +1,4 @@
-//! Boogie programs with their names replaced by numbers: their trees, the values and affine forms of expressions, and the typing rules of expressions.
+//! Boogie programs with their names replaced by numbers: their trees, the values and affine forms of expressions, and the typing rules.
 #![tactic(auto)]
 
 mod columns;

@@ -1,4 +1,4 @@
-//! Tests of the cell that the threads of a race share.
+//! Tests of the cell that the threads of a race share, and of the texts of files.
 #![tactic(auto)]
 
 #[cfg(test)]
