@@ -76,12 +76,18 @@ fn closed(alloc: Global, word: &str, inner: Vec<TStmt>) -> TStmt {
     }
 }
 
-/// Puts a statement behind the innermost list.
-fn push(lists: &mut Vec<Vec<TStmt>>, statement: TStmt) -> Result<(), AllocError> {
-    if let Some(list) = lists.last_mut() {
-        list.push(statement)?;
-    }
+/// Puts a value behind a list.
+fn keep<T: Drop>(list: &mut Vec<T>, value: T) -> Result<(), AllocError> {
+    list.push(value)?;
     Ok(())
+}
+
+/// Puts the statement of a word behind the innermost list.
+fn push(alloc: Global, lists: &mut Vec<Vec<TStmt>>, word: &str) -> Result<(), AllocError> {
+    match lists.last_mut() {
+        Some(list) => keep(list, statement(alloc, word)?),
+        None => Ok(()),
+    }
 }
 
 /// The innermost list, which is taken away.
@@ -93,8 +99,16 @@ fn last(alloc: Global, lists: &mut Vec<Vec<TStmt>>) -> Vec<TStmt> {
 }
 
 fn open(alloc: Global, lists: &mut Vec<Vec<TStmt>>) -> Result<(), AllocError> {
-    lists.push(Vec::new(alloc))?;
-    Ok(())
+    keep(lists, Vec::new(alloc))
+}
+
+/// Puts the branch or loop of the innermost list behind the one around it.
+fn close(alloc: Global, lists: &mut Vec<Vec<TStmt>>, word: &str) -> Result<(), AllocError> {
+    let inner = last(alloc, lists);
+    match lists.last_mut() {
+        Some(list) => keep(list, closed(alloc, word, inner)),
+        None => Ok(()),
+    }
 }
 
 /// Takes a word into the lists that are open, the innermost last.
@@ -102,10 +116,9 @@ fn push_word(alloc: Global, lists: &mut Vec<Vec<TStmt>>, word: &str) -> Result<(
     if word == "(" {
         open(alloc, lists)
     } else if word.ends_with(')') {
-        let inner = last(alloc, lists);
-        push(lists, closed(alloc, word, inner))
+        close(alloc, lists, word)
     } else {
-        push(lists, statement(alloc, word)?)
+        push(alloc, lists, word)
     }
 }
 
