@@ -8,7 +8,7 @@ ghost use Rattle.typed_tree.specs.Scope.{is_constant_column};
 use crate::texts::{put, put_no_memory};
 use boogie_tree::{Column, Op, Span, Text, Ty, VarInfo};
 use std::alloc::{AllocError, Global};
-use table_reading::value;
+use table_reading::{keep, value};
 use typed_tree::{
     Affine, AffineFault, Scope, TExpr, TExprKind, TypeFault, affine, expression_type,
 };
@@ -52,7 +52,7 @@ pub(crate) fn push_variables(
     letters: &[u8],
 ) -> Result<(), AllocError> {
     for letter in letters {
-        variables.push(variable(alloc, *letter)?)?;
+        keep(variables, variable(alloc, *letter)?)?;
     }
     Ok(())
 }
@@ -145,8 +145,7 @@ fn push_word(
 ) -> Result<(), AllocError> {
     let kind = kind(alloc, parts, word)?;
     let span = Span { line: 1, col };
-    parts.push(TExpr { span, kind })?;
-    Ok(())
+    keep(parts, TExpr { span, kind })
 }
 
 fn push_words(alloc: Global, parts: &mut Vec<TExpr>, postfix: &str) -> Result<(), AllocError> {

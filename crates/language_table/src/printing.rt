@@ -5,7 +5,7 @@ use crate::texts::{bytes_of, put, put_bytes, put_no_memory, put_number};
 use boogie_tree::{Decl, Expr, ExprKind, Guard, Name, Op, Program, Span, Stmt, Text, print};
 use std::alloc::{AllocError, Global};
 use std::mem;
-use table_reading::number;
+use table_reading::{keep, number};
 
 const HERE: Span = Span { line: 1, col: 1 };
 
@@ -109,8 +109,7 @@ pub(crate) fn show_implementation(rt: &HostRuntime, place: &str, text: &str) {
 /// Puts statements into a branch.
 fn branch(alloc: Global, stmts: &mut Vec<Stmt>) -> Result<(), AllocError> {
     let then = mem::replace(stmts, Vec::new(alloc));
-    stmts.push(Stmt::If(HERE, Guard::Any, then, Vec::new(alloc)))?;
-    Ok(())
+    keep(stmts, Stmt::If(HERE, Guard::Any, then, Vec::new(alloc)))
 }
 
 fn branch_often(alloc: Global, stmts: &mut Vec<Stmt>, times: u32) -> Result<(), AllocError> {
@@ -205,7 +204,7 @@ fn kind(alloc: Global, parts: &mut Vec<Expr>, word: &str) -> Result<ExprKind, Al
 fn push_words(alloc: Global, parts: &mut Vec<Expr>, postfix: &str) -> Result<(), AllocError> {
     for word in postfix.split_whitespace() {
         let kind = kind(alloc, parts, word)?;
-        parts.push(Expr { span: HERE, kind })?;
+        keep(parts, Expr { span: HERE, kind })?;
     }
     Ok(())
 }

@@ -4,7 +4,7 @@ use crate::formulas::{column, column_of, literal, push_variables};
 use crate::texts::{put, put_no_memory, put_number};
 use boogie_tree::{Column, Span, Text, VarInfo};
 use std::alloc::{AllocError, Global};
-use table_reading::{first_word, number, numbers};
+use table_reading::{first_word, keep, number, numbers};
 use typed_tree::typing_rules::{Typed, check_typing, typed};
 use typed_tree::{TExpr, TExprKind, TGuard, TProc, TStmt};
 
@@ -16,7 +16,7 @@ fn columns(alloc: Global, letters: &str) -> Result<Vec<Column>, AllocError> {
 
 fn push_literals(values: &mut Vec<TExpr>, count: usize) -> Result<(), AllocError> {
     for _more in 0..count {
-        values.push(literal(1))?;
+        keep(values, literal(1))?;
     }
     Ok(())
 }
@@ -74,12 +74,6 @@ fn closed(alloc: Global, word: &str, inner: Vec<TStmt>) -> TStmt {
     } else {
         TStmt::If(HERE, TGuard::Any, inner, Vec::new(alloc))
     }
-}
-
-/// Puts a value behind a list.
-fn keep<T: Drop>(list: &mut Vec<T>, value: T) -> Result<(), AllocError> {
-    list.push(value)?;
-    Ok(())
 }
 
 /// Puts the statement of a word behind the innermost list.
@@ -177,7 +171,7 @@ fn declare(
     name: &str,
     modified: u32,
 ) -> Result<(), AllocError> {
-    procs.push(unnamed(alloc, 0))?;
+    keep(procs, unnamed(alloc, 0))?;
     match procs.last_mut() {
         Some(made) => set_head(alloc, made, name, b"a", &[modified]),
         None => Ok(()),
@@ -192,7 +186,7 @@ fn set_body(alloc: Global, made: &mut TProc, words: &str) -> Result<(), AllocErr
 
 /// Adds a procedure with that body.
 fn implement(alloc: Global, procs: &mut Vec<TProc>, words: &str) -> Result<(), AllocError> {
-    procs.push(unnamed(alloc, 1))?;
+    keep(procs, unnamed(alloc, 1))?;
     match procs.last_mut() {
         Some(made) => set_body(alloc, made, words),
         None => Ok(()),

@@ -3,7 +3,7 @@
 use letter_acts::Act;
 use lin_rows::{Col, Row, RowFault, RowKind, row};
 use std::alloc::{AllocError, Global};
-use table_reading::{number, numbers, parted, three, two, value};
+use table_reading::{keep, number, numbers, parted, three, two, value};
 
 /// The column and the coefficient of a term.
 fn term(text: &str) -> (Col, i128) {
@@ -26,7 +26,7 @@ fn push_rows(alloc: Global, rows: &mut Vec<Row>, text: &str) -> Result<(), RowFa
     for part in text.split(';') {
         let part = part.trim();
         if !part.is_empty() {
-            rows.push(equation(alloc, part)?)?;
+            keep(rows, equation(alloc, part)?)?;
         }
     }
     Ok(())

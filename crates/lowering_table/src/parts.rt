@@ -8,7 +8,7 @@ use letter_acts::{Act, AssertId, Frame, Icfg, Site, icfg};
 use lin_rows::RowFault;
 use nwa_base::{Kind, Letter, Nwa, empty};
 use std::alloc::Global;
-use table_reading::{number, numbered, parted, three, two};
+use table_reading::{keep, number, numbered, parted, three, two};
 
 /// The parts but for the automaton.
 #[derive(Drop)]
@@ -75,7 +75,7 @@ fn add_edge(nwa: &mut Nwa, text: &str) -> bool {
 }
 
 fn push_act(alloc: Global, acts: &mut Vec<Act>, text: &str) -> Result<(), RowFault> {
-    acts.push(read_act(alloc, text)?)?;
+    keep(acts, read_act(alloc, text)?)?;
     Ok(())
 }
 
@@ -104,7 +104,7 @@ fn push_column(
     let ty = if ty == "int" { Ty::Int } else { Ty::Bool };
     let constant = said.starts_with("constant ");
     let name = name_of(alloc, said.strip_prefix("constant ").unwrap_or(said))?;
-    columns.push((column_of(column), VarInfo { name, ty, constant }))?;
+    keep(columns, (column_of(column), VarInfo { name, ty, constant }))?;
     Ok(())
 }
 
@@ -122,13 +122,13 @@ fn push_columns(
 fn push_frame(alloc: Global, frames: &mut Vec<Frame>, text: &str) -> Result<(), RowFault> {
     let mut columns = Vec::new(alloc);
     push_columns(alloc, &mut columns, text)?;
-    frames.push(Frame { columns })?;
+    keep(frames, Frame { columns })?;
     Ok(())
 }
 
 fn push_names(alloc: Global, names: &mut Vec<Text>, text: &str) -> Result<(), RowFault> {
     for word in text.split_whitespace() {
-        names.push(name_of(alloc, word)?)?;
+        keep(names, name_of(alloc, word)?)?;
     }
     Ok(())
 }

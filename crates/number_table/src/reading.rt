@@ -4,7 +4,7 @@ use farkas_check::Node;
 use frac::{Frac, Past, of};
 use lin_rows::{Col, Row, RowFault, RowKind, System, row, system};
 use std::alloc::{AllocError, Global};
-use table_reading::value;
+use table_reading::{keep, value};
 
 /// A count, a column, or the number of a row.
 pub(crate) fn small_number(word: &str) -> u32 {
@@ -50,7 +50,7 @@ struct Draft {
 
 /// Opens a system without rows and groups.
 fn open_system(alloc: Global, open: &mut Vec<System>) -> Result<(), RowFault> {
-    open.push(system(Vec::new(alloc), Vec::new(alloc)))?;
+    keep(open, system(Vec::new(alloc), Vec::new(alloc)))?;
     Ok(())
 }
 
@@ -65,7 +65,7 @@ fn begin_group(alloc: Global, open: &mut Vec<System>) -> Result<(), RowFault> {
 /// Adds a member to the last group of a system.
 fn push_member(outer: &mut System, member: System) -> Result<(), RowFault> {
     if let Some(group) = outer.groups.last_mut() {
-        group.push(member)?;
+        keep(group, member)?;
     }
     Ok(())
 }
@@ -84,7 +84,7 @@ fn add_term(terms: &mut Vec<(Col, i128)>, coefficient: &str, column: &str) -> Re
 
 fn push_row(open: &mut Vec<System>, row: Row) -> Result<(), RowFault> {
     if let Some(system) = open.last_mut() {
-        system.rows.push(row)?;
+        keep(&mut system.rows, row)?;
     }
     Ok(())
 }

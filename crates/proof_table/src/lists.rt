@@ -7,7 +7,7 @@ use proof_form::{
     write_safe,
 };
 use std::alloc::{AllocError, Global};
-use table_reading::{number, parted};
+use table_reading::{keep, number, parted};
 
 /// The lists of an annotation.
 #[derive(Drop)]
@@ -41,20 +41,18 @@ fn term(alloc: Global, coefficient: &str, column: &str) -> Result<(Numeral, Text
 /// Adds a coefficient and its column to an atom.
 fn push_term(nodes: &mut Vec<PNode>, coefficient: &str, column: &str) -> Result<(), AllocError> {
     let alloc = *nodes.allocator();
-    if let Some(PNode::Atom { terms, .. }) = nodes.last_mut() {
-        terms.push(term(alloc, coefficient, column)?)?;
+    match nodes.last_mut() {
+        Some(PNode::Atom { terms, .. }) => keep(terms, term(alloc, coefficient, column)?),
+        _ => Ok(()),
     }
-    Ok(())
 }
 
 /// Adds the atom that says that the column times the coefficient is 0 or less.
 fn push_atom(nodes: &mut Vec<PNode>, coefficient: &str, column: &str) -> Result<(), AllocError> {
     let alloc = *nodes.allocator();
     let bound = numeral(alloc, "0")?;
-    nodes.push(PNode::Atom {
-        bound,
-        terms: Vec::new(alloc),
-    })?;
+    let terms = Vec::new(alloc);
+    keep(nodes, PNode::Atom { bound, terms })?;
     push_term(nodes, coefficient, column)
 }
 
@@ -65,7 +63,7 @@ fn push_nodes(
     column: &str,
     atoms: u32,
 ) -> Result<(), AllocError> {
-    nodes.push(PNode::And(2))?;
+    keep(nodes, PNode::And(2))?;
     for _turn in 0..atoms {
         push_atom(nodes, coefficient, column)?;
     }
@@ -80,10 +78,8 @@ fn push_pred(
 ) -> Result<(), AllocError> {
     let alloc = *preds.allocator();
     let proc = text_of(alloc, "p")?;
-    preds.push(PredLine {
-        proc,
-        nodes: Vec::new(alloc),
-    })?;
+    let nodes = Vec::new(alloc);
+    keep(preds, PredLine { proc, nodes })?;
     match preds.last_mut() {
         Some(pred) => push_nodes(&mut pred.nodes, coefficient, column, atoms),
         None => Ok(()),
@@ -116,8 +112,7 @@ fn step(alloc: Global, letter: &str, to: &str) -> Result<StepLine, AllocError> {
 
 fn push_step(steps: &mut Vec<StepLine>) -> Result<(), AllocError> {
     let alloc = *steps.allocator();
-    steps.push(step(alloc, "5", "0")?)?;
-    Ok(())
+    keep(steps, step(alloc, "5", "0")?)
 }
 
 /// An inside triple, without a proof.
@@ -136,22 +131,25 @@ fn triple(alloc: Global, letter: &str) -> Result<TripleLine, AllocError> {
 
 fn push_triple(triples: &mut Vec<TripleLine>) -> Result<(), AllocError> {
     let alloc = *triples.allocator();
-    triples.push(triple(alloc, "3")?)?;
-    if let Some(TripleLine::Inside { proof, .. }) = triples.last_mut() {
-        proof.push(RNode::Cases(0))?;
+    keep(triples, triple(alloc, "3")?)?;
+    match triples.last_mut() {
+        Some(TripleLine::Inside { proof, .. }) => keep(proof, RNode::Cases(0)),
+        _ => Ok(()),
     }
-    Ok(())
 }
 
 fn push_node(nodes: &mut Vec<NodeLine>) -> Result<(), AllocError> {
     let alloc = *nodes.allocator();
     let Ends { from, to } = two_ends(alloc, "4", "0")?;
-    nodes.push(NodeLine {
-        place: from,
-        entry: to,
-        preds: Vec::new(alloc),
-    })?;
-    Ok(())
+    let preds = Vec::new(alloc);
+    keep(
+        nodes,
+        NodeLine {
+            place: from,
+            entry: to,
+            preds,
+        },
+    )
 }
 
 /// Fills the lists: a predicate that joins two of so many atoms, with this coefficient and column, and one line of each other kind.

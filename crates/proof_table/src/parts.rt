@@ -18,7 +18,7 @@ use letter_acts::{Act, AssertId, Frame, Icfg, Site, icfg};
 use lin_rows::{Row, RowFault};
 use nwa_base::{Kind, Letter, Nwa, NwaFault, empty};
 use std::alloc::Global;
-use table_reading::{number, numbers, parted, three};
+use table_reading::{keep, number, numbers, parted, three};
 
 /// The parts of a graph while they are read.
 #[derive(Drop)]
@@ -62,7 +62,7 @@ fn push_variable(
         Ty::Bool
     };
     let name = text_of(alloc, name)?;
-    columns.push((column(place), VarInfo { name, ty, constant }))?;
+    keep(columns, (column(place), VarInfo { name, ty, constant }))?;
     Ok(())
 }
 
@@ -79,9 +79,8 @@ fn push_variables(
 
 /// Adds the frame of the columns with commas between them.
 fn push_frame(alloc: Global, frames: &mut Vec<Frame>, text: &str) -> Result<(), RowFault> {
-    frames.push(Frame {
-        columns: Vec::new(alloc),
-    })?;
+    let columns = Vec::new(alloc);
+    keep(frames, Frame { columns })?;
     match frames.last_mut() {
         Some(frame) => push_variables(alloc, &mut frame.columns, text),
         None => Ok(()),
@@ -89,7 +88,7 @@ fn push_frame(alloc: Global, frames: &mut Vec<Frame>, text: &str) -> Result<(), 
 }
 
 fn push_name(alloc: Global, names: &mut Vec<Text>, name: &str) -> Result<(), RowFault> {
-    names.push(text_of(alloc, name)?)?;
+    keep(names, text_of(alloc, name)?)?;
     Ok(())
 }
 
@@ -192,7 +191,7 @@ fn push_coarse(alloc: Global, acts: &mut Vec<Act>, said: &str) -> Result<(), Row
 }
 
 fn push_made(acts: &mut Vec<Act>, made: Result<Act, RowFault>) -> Result<(), RowFault> {
-    acts.push(made?)?;
+    keep(acts, made?)?;
     Ok(())
 }
 

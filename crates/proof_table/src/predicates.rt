@@ -4,7 +4,7 @@ use crate::reading::row_of;
 use crate::rows::{put_line, put_nothing, put_number};
 use lin_rows::RowFault;
 use std::alloc::Global;
-use table_reading::{number, parted, values};
+use table_reading::{keep, number, parted, values};
 use triple_rows::{Pred, PredNode, Scoped, is_over, pred, pred_holds};
 
 /// A node: `true`, `false`, `and 2`, `or 2`, or a row.
@@ -23,7 +23,7 @@ fn node_of(alloc: Global, text: &str) -> Result<PredNode, RowFault> {
 fn push_nodes(alloc: Global, nodes: &mut Vec<PredNode>, text: &str) -> Result<(), RowFault> {
     for said in text.split(';') {
         if !said.is_empty() {
-            nodes.push(node_of(alloc, said)?)?;
+            keep(nodes, node_of(alloc, said)?)?;
         }
     }
     Ok(())

@@ -2,7 +2,7 @@
 
 use lin_rows::{Row, RowFault, RowKind, row};
 use std::alloc::{AllocError, Global};
-use table_reading::{number, parted, value};
+use table_reading::{keep, number, parted, value};
 
 /// A column and its coefficient, `-1*4`, or a row and its multiplier, `4:-1`.
 pub(crate) fn pair(text: &str) -> (u32, i128) {
@@ -39,7 +39,7 @@ pub(crate) fn row_of(alloc: Global, text: &str) -> Result<Row, RowFault> {
 pub(crate) fn push_rows(alloc: Global, rows: &mut Vec<Row>, text: &str) -> Result<(), RowFault> {
     for said in text.split(';') {
         if !said.is_empty() {
-            rows.push(row_of(alloc, said)?)?;
+            keep(rows, row_of(alloc, said)?)?;
         }
     }
     Ok(())

@@ -7,6 +7,7 @@ use crate::reading::{pair, pairs};
 use farkas_check::{Node, Refutation, check, tree};
 use path_rows::PathSystem;
 use std::alloc::{AllocError, Global};
+use table_reading::keep;
 
 /// A leaf, `leaf 0:-1 1:1`, or a cut, `cut 4:0`.
 fn node_of(alloc: Global, text: &str) -> Result<Node, AllocError> {
@@ -21,7 +22,7 @@ fn node_of(alloc: Global, text: &str) -> Result<Node, AllocError> {
 
 fn push_nodes(alloc: Global, nodes: &mut Vec<Node>, text: &str) -> Result<(), AllocError> {
     for line in text.lines() {
-        nodes.push(node_of(alloc, line)?)?;
+        keep(nodes, node_of(alloc, line)?)?;
     }
     Ok(())
 }
