@@ -12,7 +12,7 @@ use Rattle.typed_tree.specs.TypedTree.{TypedStatement, Assert, Assume, Havoc, As
 use Rattle.typed_tree.specs.TypedView as typed
 use Rattle.typed_tree.specs.TypingRules.Counts.{points}
 use Rattle.explained_proof.specs.Ties.Fitting.{HasPlaces, StatementFits}
-use Rattle.explained_proof.specs.Statements.{Left, left, past_in, past_hidden_in, is_assignment, then_of, otherwise_of, body_of, in_first, before, Setting, asserted, assertions_behind, behind, is_left, left_labels, flag, explained_block, explained_statement, first_branch, second_branch}
+use Rattle.explained_proof.specs.Statements.{Left, left, past_in, past_hidden_in, is_assignment, body_of, in_first, before, Setting, asserted, assertions_behind, behind, is_left, left_labels, flag, explained_block, explained_statement, first_branch, second_branch}
 
 -- ---- places
 
@@ -29,14 +29,6 @@ module _ (procs : List TypedProcedure) where
 
   pub nothing_fits : (s : TypedStatement) (n : ℕ) → StatementFits procs s n → HasPlaces procs (left Empty n)
   nothing_fits s n h = let m = h.numbers in record { count = omega arith; numbers = omega arith }
-
-  pub then_fits : (s : TypedStatement) (n : ℕ) → StatementFits procs s n → HasPlaces procs (then_of s n)
-  then_fits (If at g x y) n h = let c = h.count in let m = h.numbers in record { count = omega arith; numbers = omega arith }
-  then_fits s n h = nothing_fits s n h
-
-  pub otherwise_fits : (s : TypedStatement) (n : ℕ) → StatementFits procs s n → HasPlaces procs (otherwise_of procs s n)
-  otherwise_fits (If at g x y) n h = let c = h.count in let m = h.numbers in record { count = omega arith; numbers = omega arith }
-  otherwise_fits s n h = nothing_fits s n h
 
   pub body_fits : (s : TypedStatement) (n : ℕ) → StatementFits procs s n → HasPlaces procs (body_of s n)
   body_fits (While at g is x) n h = let c = h.count in let m = h.numbers in record { count = omega arith; numbers = omega arith }

@@ -84,9 +84,7 @@ impl JumpLabels {
                 self.pass_all(otherwise)
             }
             TStmt::While(_, _, _, body) => self.pass_all(body),
-            TStmt::Assert(_, _) | TStmt::Assume(_, _) | TStmt::Havoc(_, _) => Ok(()),
-            TStmt::Assign(_, _, _) | TStmt::Call(_, _, _, _) => Ok(()),
-            TStmt::Break(_, _) | TStmt::Return(_) => Ok(()),
+            _ => Ok(()),
         }
     }
 
@@ -136,9 +134,7 @@ pub(crate) fn breaks_to(name: &[u8], statement: &Stmt) -> bool
             some_breaks_to(name, then) || some_breaks_to(name, otherwise)
         }
         Stmt::While(_, _, _, body) => some_breaks_to(name, body),
-        Stmt::Assert(_, _) | Stmt::Assume(_, _) | Stmt::Havoc(_, _) => false,
-        Stmt::Assign(_, _, _) | Stmt::Call(_, _, _, _) => false,
-        Stmt::Goto(_, _) | Stmt::Return(_) | Stmt::Label(_) => false,
+        _ => false,
     }
 }
 

@@ -51,12 +51,7 @@ fn past<'a>(procs: &[TProc], left: Place<'a>) -> Place<'a>
 fn is_assignment(statement: &TStmt) -> bool
     ensures { result ≡ spec.is_assignment (typed.statement statement.now) }
 {
-    match statement {
-        TStmt::Assign(_, _, _) => true,
-        TStmt::Assert(_, _) | TStmt::Assume(_, _) | TStmt::Havoc(_, _) => false,
-        TStmt::Call(_, _, _, _) | TStmt::If(_, _, _, _) | TStmt::While(_, _, _, _) => false,
-        TStmt::Break(_, _) | TStmt::Goto(_, _) | TStmt::Return(_) | TStmt::Label(_) => false,
-    }
+    matches!(statement, TStmt::Assign(_, _, _))
 }
 
 /// Behind the assignments to hidden locals before a call.
@@ -86,11 +81,7 @@ fn behind<'a>(procs: &[TProc], statement: &Stmt, left: Place<'a>) -> Place<'a>
 {
     match statement {
         Stmt::Call(_, _, _, _) => past(procs, past_hidden(procs, left)),
-        Stmt::Assert(_, _) | Stmt::Assume(_, _) | Stmt::Havoc(_, _) => past(procs, left),
-        Stmt::Assign(_, _, _) | Stmt::If(_, _, _, _) | Stmt::While(_, _, _, _) => past(procs, left),
-        Stmt::Break(_, _) | Stmt::Goto(_, _) | Stmt::Return(_) | Stmt::Label(_) => past(
-            procs, left,
-        ),
+        _ => past(procs, left),
     }
 }
 
@@ -99,40 +90,6 @@ fn nothing_at<'a>(at: u64) -> Place<'a>
     ensures { view.left result ≡ spec.nothing_at at }
 {
     Place { rest: &[], at }
-}
-
-/// The first branch of a branch.
-fn then_of<'a>(procs: &[TProc], statement: &'a TStmt, at: u64) -> Place<'a>
-    requires { StatementFits (map typed.procedure procs.now) (typed.statement statement.now) at }
-    ensures { view.left result ≡ spec.then_of (typed.statement statement.entry.now) at }
-{
-    match statement {
-        TStmt::If(_, _, then, _) => Place {
-            rest: then,
-            at: at + 1,
-        },
-        TStmt::Assert(_, _) | TStmt::Assume(_, _) | TStmt::Havoc(_, _) => nothing_at(at),
-        TStmt::Assign(_, _, _) | TStmt::Call(_, _, _, _) => nothing_at(at),
-        TStmt::While(_, _, _, _) | TStmt::Break(_, _) => nothing_at(at),
-        TStmt::Goto(_, _) | TStmt::Return(_) | TStmt::Label(_) => nothing_at(at),
-    }
-}
-
-/// The second branch of a branch.
-fn otherwise_of<'a>(procs: &[TProc], statement: &'a TStmt, at: u64) -> Place<'a>
-    requires { StatementFits (map typed.procedure procs.now) (typed.statement statement.now) at }
-    ensures { view.left result ≡ spec.otherwise_of (map typed.procedure procs.now) (typed.statement statement.entry.now) at }
-{
-    match statement {
-        TStmt::If(_, _, then, otherwise) => Place {
-            rest: otherwise,
-            at: at + 1 + u64::from(block_points(procs, then)),
-        },
-        TStmt::Assert(_, _) | TStmt::Assume(_, _) | TStmt::Havoc(_, _) => nothing_at(at),
-        TStmt::Assign(_, _, _) | TStmt::Call(_, _, _, _) => nothing_at(at),
-        TStmt::While(_, _, _, _) | TStmt::Break(_, _) => nothing_at(at),
-        TStmt::Goto(_, _) | TStmt::Return(_) | TStmt::Label(_) => nothing_at(at),
-    }
 }
 
 /// The body of a loop, behind its invariants and its guard.
@@ -145,10 +102,7 @@ fn body_of<'a>(procs: &[TProc], statement: &'a TStmt, at: u64) -> Place<'a>
             rest: body,
             at: at + conditions.len() as u64 + 1,
         },
-        TStmt::Assert(_, _) | TStmt::Assume(_, _) | TStmt::Havoc(_, _) => nothing_at(at),
-        TStmt::Assign(_, _, _) | TStmt::Call(_, _, _, _) => nothing_at(at),
-        TStmt::If(_, _, _, _) | TStmt::Break(_, _) => nothing_at(at),
-        TStmt::Goto(_, _) | TStmt::Return(_) | TStmt::Label(_) => nothing_at(at),
+        _ => nothing_at(at),
     }
 }
 
@@ -158,9 +112,15 @@ fn first_branch<'a>(procs: &[TProc], left: Place<'a>) -> Place<'a>
     ensures value { view.left result ≡ spec.first_branch (view.left left.entry) }
     ensures fits { HasPlaces (map typed.procedure procs.now) (view.left result) }
 {
-    match left.rest.split_first() {
-        Some((first, _)) => then_of(procs, first, left.at),
-        None => nothing_at(left.at),
+    let Some((first, _)) = left.rest.split_first() else {
+        return nothing_at(left.at);
+    };
+    let TStmt::If(_, _, then, _) = first else {
+        return nothing_at(left.at);
+    };
+    Place {
+        rest: then,
+        at: left.at + 1,
     }
 }
 
@@ -170,9 +130,15 @@ fn second_branch<'a>(procs: &[TProc], left: Place<'a>) -> Place<'a>
     ensures value { view.left result ≡ spec.second_branch (map typed.procedure procs.now) (view.left left.entry) }
     ensures fits { HasPlaces (map typed.procedure procs.now) (view.left result) }
 {
-    match left.rest.split_first() {
-        Some((first, _)) => otherwise_of(procs, first, left.at),
-        None => nothing_at(left.at),
+    let Some((first, _)) = left.rest.split_first() else {
+        return nothing_at(left.at);
+    };
+    let TStmt::If(_, _, then, otherwise) = first else {
+        return nothing_at(left.at);
+    };
+    Place {
+        rest: otherwise,
+        at: left.at + 1 + u64::from(block_points(procs, then)),
     }
 }
 
@@ -199,25 +165,16 @@ pub(crate) fn condition(cond: Expr) -> Inv
     }
 }
 
-/// Whether a break in the first of the statements names the label.
-fn first_breaks_to(name: &[u8], statements: &[Stmt]) -> bool
-    ensures { result ≡ spec.first_breaks_to name.now (tree.statements statements.now) }
-{
-    match statements.split_first() {
-        Some((first, _)) => breaks_to(name, first),
-        None => false,
-    }
-}
-
 /// Whether a break in the loop behind the label names it, for which the loop has to stand there.
 fn is_left(statement: &Stmt, rest: &[Stmt]) -> bool
     ensures { result ≡ spec.is_left (tree.statement statement.now) (tree.statements rest.now) }
 {
-    match statement {
-        Stmt::Label(name) => first_breaks_to(name.text.bytes(), rest),
-        Stmt::Assert(_, _) | Stmt::Assume(_, _) | Stmt::Havoc(_, _) => false,
-        Stmt::Assign(_, _, _) | Stmt::Call(_, _, _, _) | Stmt::If(_, _, _, _) => false,
-        Stmt::While(_, _, _, _) | Stmt::Break(_, _) | Stmt::Goto(_, _) | Stmt::Return(_) => false,
+    let Stmt::Label(name) = statement else {
+        return false;
+    };
+    match rest.split_first() {
+        Some((first, _)) => breaks_to(name.text.bytes(), first),
+        None => false,
     }
 }
 
@@ -244,26 +201,16 @@ fn flag_at(flags: &[bool], number: usize) -> bool
     }
 }
 
-/// Whether the statement is one of these labels.
-fn is_among(backwards: &Numbers, statement: &TStmt) -> bool
-    ensures { result ≡ spec.is_among (view.numbers backwards.now) (typed.statement statement.now) }
-{
-    match statement {
-        TStmt::Label(number) => backwards.has(*number),
-        TStmt::Assert(_, _) | TStmt::Assume(_, _) | TStmt::Havoc(_, _) => false,
-        TStmt::Assign(_, _, _) | TStmt::Call(_, _, _, _) | TStmt::If(_, _, _, _) => false,
-        TStmt::While(_, _, _, _) | TStmt::Break(_, _) => false,
-        TStmt::Goto(_, _) | TStmt::Return(_) => false,
-    }
-}
-
 /// Whether a label stands first to which a goto behind it leads.
 fn leads_backwards(backwards: &Numbers, statements: &[TStmt]) -> bool
     ensures { result ≡ spec.leads_backwards (view.numbers backwards.now) (typed.statements statements.now) }
 {
-    match statements.split_first() {
-        Some((first, _)) => is_among(backwards, first),
-        None => false,
+    let Some((first, _)) = statements.split_first() else {
+        return false;
+    };
+    match first {
+        TStmt::Label(number) => backwards.has(*number),
+        _ => false,
     }
 }
 
