@@ -188,9 +188,7 @@ fn other_rows<'a>(
 {
     let mut list = Vec::new(alloc);
     for row in rows {
-        if !is_row(shared, row) {
-            list.push(*row)?;
-        }
+        push_row_if(!is_row(shared, row), row, &mut list)?;
     }
     Ok(list)
 }
@@ -205,9 +203,7 @@ fn other_cases<'a>(
 {
     let mut list = Vec::new(alloc);
     for tree in cases {
-        if !has_cases(shared, *tree) {
-            list.push(*tree)?;
-        }
+        push_tree_if(!has_cases(shared, *tree), *tree, &mut list)?;
     }
     Ok(list)
 }
