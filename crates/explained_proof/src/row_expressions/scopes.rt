@@ -100,27 +100,6 @@ fn number_spoken(alloc: Global, info: &VarInfo, voice: Voice) -> Result<Expr, Al
     }
 }
 
-/// Whether the column is boolean.
-fn has_truth(column: &(Column, VarInfo)) -> bool
-    ensures { result ≡ spec.has_truth column.now }
-{
-    match column.1.ty {
-        Ty::Bool => true,
-        Ty::Int => false,
-    }
-}
-
-/// Whether the column is a global that may change, or what one had at the entry.
-fn changes(column: &(Column, VarInfo)) -> bool
-    ensures { result ≡ spec.changes column.now }
-{
-    match column.0 {
-        Column::Global(_) => !column.1.constant,
-        Column::Old(_) => true,
-        Column::Local(_) => false,
-    }
-}
-
 impl<'a> Scope<'a> {
     /// Whether the local of that number and name is seen.
     fn sees(&self, local: u32, name: &[u8]) -> bool
@@ -241,7 +220,7 @@ impl<'a> Scope<'a> {
         ensures { result ≡ spec.is_truth (view.scope self.now) number }
     {
         match self.column(number) {
-            Some(column) => has_truth(column),
+            Some((_, info)) => matches!(info.ty, Ty::Bool),
             None => false,
         }
     }
@@ -251,8 +230,9 @@ impl<'a> Scope<'a> {
         ensures { result ≡ spec.may_change (view.scope self.now) number }
     {
         match self.column(number) {
-            Some(column) => changes(column),
-            None => false,
+            Some((Column::Global(_), info)) => !info.constant,
+            Some((Column::Old(_), _)) => true,
+            _ => false,
         }
     }
 
@@ -266,40 +246,15 @@ impl<'a> Scope<'a> {
         }
     }
 
-    /// A column as an expression; none where it cannot be said.
-    fn column_said(
-        &self,
-        alloc: Global,
-        column: &(Column, VarInfo),
-    ) -> Result<Option<Expr>, AllocError>
-        ensures { IfOk result (λ o. option_map tree.expression o ≡ spec.column_said (view.scope self.now) column.now) }
-    {
-        match self.voice(column) {
-            Some(voice) => Ok(Some(spoken(alloc, column.1.name.copy()?, voice)?)),
-            None => Ok(None),
-        }
-    }
-
     /// The column of that number as an expression; none where it cannot be said.
     pub fn said(&self, alloc: Global, number: u32) -> Result<Option<Expr>, AllocError>
         ensures { IfOk result (λ o. option_map tree.expression o ≡ spec.said (view.scope self.now) number) }
     {
-        match self.column(number) {
-            Some(column) => self.column_said(alloc, column),
-            None => Ok(None),
-        }
-    }
-
-    /// The number that a column stands for; none where it cannot be said.
-    fn column_number(
-        &self,
-        alloc: Global,
-        column: &(Column, VarInfo),
-    ) -> Result<Option<Expr>, AllocError>
-        ensures { IfOk result (λ o. option_map tree.expression o ≡ spec.column_number (view.scope self.now) column.now) }
-    {
+        let Some(column) = self.column(number) else {
+            return Ok(None);
+        };
         match self.voice(column) {
-            Some(voice) => Ok(Some(number_spoken(alloc, &column.1, voice)?)),
+            Some(voice) => Ok(Some(spoken(alloc, column.1.name.copy()?, voice)?)),
             None => Ok(None),
         }
     }
@@ -308,8 +263,11 @@ impl<'a> Scope<'a> {
     pub(crate) fn number_said(&self, alloc: Global, number: u32) -> Result<Option<Expr>, AllocError>
         ensures { IfOk result (λ o. option_map tree.expression o ≡ spec.number_said (view.scope self.now) number) }
     {
-        match self.column(number) {
-            Some(column) => self.column_number(alloc, column),
+        let Some(column) = self.column(number) else {
+            return Ok(None);
+        };
+        match self.voice(column) {
+            Some(voice) => Ok(Some(number_spoken(alloc, &column.1, voice)?)),
             None => Ok(None),
         }
     }
