@@ -11,7 +11,7 @@ use boogie_tree::{Column, Expr, Text, Ty, VarInfo};
 use std::alloc::{AllocError, Global};
 
 /// Where a fact is to be said.
-#[derive(Clone, Copy, Debug, PartialEq, Eq)]
+#[derive(Clone, Copy)]
 pub enum Position {
     /// In a `requires`.
     Requires,
@@ -22,7 +22,7 @@ pub enum Position {
 }
 
 /// How a column is called.
-#[derive(Clone, Copy, Debug, PartialEq, Eq)]
+#[derive(Clone, Copy)]
 pub enum Voice {
     /// By its name.
     Plain,
