@@ -11,7 +11,7 @@ import sys
 TOP = pathlib.Path(__file__).resolve().parent.parent
 TOP_CALL = "automizer_top.specs."
 TOKEN = re.compile(r"[^\W\d][\w'-]*(?:\.[^\W\d][\w'-]*)*", re.UNICODE)
-ITEM = re.compile(r"\n(?= {0,2}(?:abbrev |pub |data |record )\S)")
+ITEM = re.compile(r"\n(?= {0,2}(?:abbrev |unfoldable |opaque |pub |data |record )\S)")
 
 
 class Module:
@@ -31,7 +31,7 @@ class Module:
             if item.startswith("  ") and re.match(r"pub [^\s:({]+ :", bare):  # a field belongs to its record
                 self.declares[last] += "\n" + bare
                 continue
-            declared = re.match(r"(?:abbrev )?(?:pub )?(?:data |record |abbrev )*(?:pub )?([^\s:({]+)", bare)
+            declared = re.match(r"(?:(?:abbrev|unfoldable|opaque|pub|data|record) )*([^\s:({]+)", bare)
             last = declared.group(1)
             self.declares[last] = self.declares.get(last, "") + bare
 

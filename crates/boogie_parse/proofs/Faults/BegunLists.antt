@@ -14,7 +14,7 @@ use Rattle.boogie_parse.specs.declared.symbols.Fixed.TheVariants as fixed
 use Rattle.boogie_parse.specs.declared.symbols.Sign.{Sign}
 use Rattle.boogie_parse.specs.declared.symbols.Sign.TheVariants as signs
 use Rattle.boogie_parse.specs.declared.symbols.Symbol.{Symbol}
-use Rattle.boogie_parse.specs.Reading.Outcomes.{Read, Outcome, limit_fault}
+use Rattle.boogie_parse.specs.Reading.Outcomes.{Read, ReadResult, limit_fault}
 use Rattle.boogie_parse.specs.Rules.Grammar.{Is, Reads}
 use Rattle.boogie_parse.specs.Rules.GrammarLists as grammar
 use Rattle.boogie_parse.specs.Rules.GrammarLists.{IsName, ReadsNames, ReadsExpressions, ReadsArguments, ReadsGuard, ReadsCondition, ReadsInvariants, type_named, ReadsGroup, ReadsVariables, ReadsDeclared, ReadsFormals, ReadsResults}
@@ -61,7 +61,7 @@ unfolding name_at
 begun_name K end [] = tt
 begun_name K end (t ∷ r) = name_of_sign K t r t.sign
 
-past_name : (t : Symbol) (r : List Symbol) (s : Sign) → t.sign ≡ s → BegunIf AName (t ∷ r) (name_by t.span r s >>= (λ x. let o : Outcome Name = Err (limit_fault limits.Variables x.value.span) in o))
+past_name : (t : Symbol) (r : List Symbol) (s : Sign) → t.sign ≡ s → BegunIf AName (t ∷ r) (name_by t.span r s >>= (λ x. let o : ReadResult Name = Err (limit_fault limits.Variables x.value.span) in o))
 past_name t r (signs.Name x) is = begun_at AName t r limits.Variables (λ m. m) (λ m. a_name {x = record { span = t.span; text = x }} t (record { sign = is; span = refl }))
 past_name t r (signs.Fixed w) is = tt
 past_name t r (signs.Number n) is = tt
@@ -72,7 +72,7 @@ begun_new_name end zero [] = tt
 begun_new_name end zero (t ∷ r) = past_name t r t.sign refl
 begun_new_name end (suc n) us = begun_name AName end us
 
-one_sound : {X : Type 0} (G : Relation) (us : List Symbol) (o : Outcome X) → IfOk o (λ a. G us a.rest) → IfOk (one o) (λ a. G us a.rest)
+one_sound : {X : Type 0} (G : Relation) (us : List Symbol) (o : ReadResult X) → IfOk o (λ a. G us a.rest) → IfOk (one o) (λ a. G us a.rest)
 one_sound G us (Ok a) h = h
 one_sound G us (Err e) h = tt
 
@@ -178,7 +178,7 @@ Listed G n r = Mark fixed.CloseParenthesis n r ⊎ EndedBy G fixed.CloseParenthe
 filled_listed : (G : Relation) → Filled (Listed G)
 filled_listed G = record { symbols = λ r. a_mark fixed.CloseParenthesis ∷ r; fills = λ r. inl (mark (a_mark fixed.CloseParenthesis) refl) }
 
-begun_listed : {X : Type 0} (end : Span) (f : List Symbol → Outcome (List X)) (G : Relation) → ((us : List Symbol) → Steady 1 f us) → ((us : List Symbol) → IfOk (f us) (λ a. G us a.rest)) → ((us : List Symbol) → BegunIf G us (f us)) →
+begun_listed : {X : Type 0} (end : Span) (f : List Symbol → ReadResult (List X)) (G : Relation) → ((us : List Symbol) → Steady 1 f us) → ((us : List Symbol) → IfOk (f us) (λ a. G us a.rest)) → ((us : List Symbol) → BegunIf G us (f us)) →
     (us : List Symbol) (o : Option (Read Span)) → BegunIf (Listed G) us (listed_by end f us o)
 begun_listed end f G steady sound begun us (Some a) = tt
 begun_listed end f G steady sound begun us None =

@@ -13,7 +13,7 @@ use Rattle.boogie_parse.specs.declared.symbols.Fixed.TheVariants as fixed
 use Rattle.boogie_parse.specs.declared.symbols.Sign.{Sign}
 use Rattle.boogie_parse.specs.declared.symbols.Sign.TheVariants as signs
 use Rattle.boogie_parse.specs.declared.symbols.Symbol.{Symbol}
-use Rattle.boogie_parse.specs.Reading.Outcomes.{Read, Outcome}
+use Rattle.boogie_parse.specs.Reading.Outcomes.{Read, ReadResult}
 use Rattle.boogie_parse.specs.Rules.Grammar.{Is}
 use Rattle.boogie_parse.specs.Rules.GrammarStatements.{ReadsList, no_statement}
 use Rattle.boogie_parse.specs.Rules.GrammarProgram as grammar
@@ -91,11 +91,11 @@ begun_head end p v f here us =
 head_sound : (end : Span) (p v : ℕ) (f : Fixed) (here : Span) (us : List Symbol) → IfOk (head_at end p v here us) (λ a. Headed p f here us a.rest)
 head_sound end p v f here us = by (head_at end p v here us) refl
   where
-    by : (o : Outcome Head) → head_at end p v here us ≡ o → IfOk o (λ a. Headed p f here us a.rest)
+    by : (o : ReadResult Head) → head_at end p v here us ≡ o → IfOk o (λ a. Headed p f here us a.rest)
     by (Ok a) e = λ t it at.
         let P : Span → Type 0 = λ s. IfOk (head_at end p v s us) (λ x. IsHeadRead p v f (t ∷ us) x.value x.rest) in
         let h : IfOk (head_at end p v here us) (λ x. IsHeadRead p v f (t ∷ us) x.value x.rest) = subst P at (head-sound end p v f t us it) in
-        let Q : Outcome Head → Type 0 = λ o. IfOk o (λ x. IsHeadRead p v f (t ∷ us) x.value x.rest) in
+        let Q : ReadResult Head → Type 0 = λ o. IfOk o (λ x. IsHeadRead p v f (t ∷ us) x.value x.rest) in
         let w : IsHeadRead p v f (t ∷ us) a.value a.rest = subst Q e h in
         (a.value, weak_head w.0)
     by (Err e) q = tt
@@ -230,7 +230,7 @@ filled_body p b =
     record { symbols = λ r. a_mark fixed.OpenBrace ∷ x.symbols r; fills = λ r. join_body p b (a_mark fixed.OpenBrace ∷ x.symbols r) (x.symbols r) r (mark (a_mark fixed.OpenBrace) refl) (x.fills r) }
 
 -- the locals, the statements and the closing brace
-in_body : Span → ℕ → ℕ → ℕ → List Symbol → Outcome ProcedureBody
+in_body : Span → ℕ → ℕ → ℕ → List Symbol → ReadResult ProcedureBody
 in_body end p c n us = do
   vs ← locals_at end n us
   ss ← list_at (expression_at end) end p (inside_at (expression_at end) end p c) vs.rest
@@ -360,7 +360,7 @@ no_limit_left : (end : Span) (ds : Read (List Declaration)) (us : List Symbol) (
 no_limit_left end ds [] kind line col is = cc
 no_limit_left end ds (t ∷ us) kind line col is = cc
 
-by_declarations : (end : Span) (p b : ℕ) (us : List Symbol) (kind : Which) (line col : ℕ) (o : Outcome (List Declaration)) → BegunIf (Programs p b) us o → (o >>= (λ ds. finished end ds ds.rest)) ≡ Err (faults.Limit kind line col) →
+by_declarations : (end : Span) (p b : ℕ) (us : List Symbol) (kind : Which) (line col : ℕ) (o : ReadResult (List Declaration)) → BegunIf (Programs p b) us o → (o >>= (λ ds. finished end ds ds.rest)) ≡ Err (faults.Limit kind line col) →
     Begun (Programs p b) us kind line col
 by_declarations end p b us kind line col (Ok ds) h is = absurd (no_limit_left end ds ds.rest kind line col is)
 by_declarations end p b us kind line col (Err f) h is = let one : f ≡ faults.Limit kind line col = cc in subst (BegunBy (Programs p b) us) one h

@@ -12,7 +12,7 @@ use Rattle.boogie_parse.specs.declared.symbols.Sign.TheVariants as signs
 use Rattle.boogie_parse.specs.declared.symbols.Symbol.{Symbol}
 use Rattle.boogie_tree.specs.declared.level.Level.TheVariants.{Equivalence}
 use Rattle.boogie_parse.proofs.Faults.BegunExpressions.{Spells}
-use Rattle.boogie_parse.specs.Reading.Outcomes.{Read, Outcome, limit_fault}
+use Rattle.boogie_parse.specs.Reading.Outcomes.{Read, ReadResult, limit_fault}
 use Rattle.boogie_parse.specs.Rules.Grammar.{Is}
 use Rattle.boogie_parse.specs.Rules.GrammarStatements as grammar
 use Rattle.boogie_parse.specs.Rules.GrammarStatements.{ReadsStatement, ReadsIf, ReadsBlock, ReadsList}
@@ -357,7 +357,7 @@ begun_block end p b k us =
     (begun_list end p b (inside_at (expression_at end) end p b) k (inside-sound (expression_at end) end p (expression_at-sound end) b) vs))
 
 no_block_by : (end : Span) (p : ℕ) (us : List Symbol) (o : Option (Read Span)) → IfSome o (Stands fixed.OpenBrace us) →
-    BegunIf (Blocked p zero) us (must_be end us o >>= (λ brace. let x : Outcome Block = Err (limit_fault limits.Nesting brace.value) in x))
+    BegunIf (Blocked p zero) us (must_be end us o >>= (λ brace. let x : ReadResult Block = Err (limit_fault limits.Nesting brace.value) in x))
 no_block_by end p [] None s = tt
 no_block_by end p (t ∷ us) None s = tt
 no_block_by end p us (Some a) s = record {

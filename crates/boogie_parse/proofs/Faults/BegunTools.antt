@@ -10,7 +10,7 @@ use Rattle.boogie_parse.specs.declared.symbols.Fixed.{Fixed}
 use Rattle.boogie_parse.specs.declared.symbols.Fixed.TheVariants as fixed
 use Rattle.boogie_parse.specs.declared.symbols.Sign.TheVariants as signs
 use Rattle.boogie_parse.specs.declared.symbols.Symbol.{Symbol}
-use Rattle.boogie_parse.specs.Reading.Outcomes.{Read, Outcome, limit_fault, and_then}
+use Rattle.boogie_parse.specs.Reading.Outcomes.{Read, ReadResult, limit_fault, and_then}
 use Rattle.boogie_parse.specs.Rules.Grammar.{Is}
 use Rattle.boogie_parse.specs.Reading.ListReading.{◌>>=◌, read, Possible, there, one, one_there, seen, must_be, behind, opened_by, opened, with_front, more_by, separated, repeated_by, repeated}
 use Rattle.boogie_parse.proofs.Faults.SettledTools.{SameHead, same_front, Goes, SteadyBy, Steady, MaybeBy, Maybe}
@@ -86,11 +86,11 @@ begun_behind G K t ts (Ok a) f h = tt
 begun_behind G K t ts (Err e) f h = begun_as G K (t ∷ []) (t ∷ ts) ts e (λ r. r) refl (λ n r s g. f n r g) h
 
 -- the faults are the same
-pub begun_there : {X : Type 0} (K : Relation) (ts : List Symbol) (o : Outcome X) → BegunIf K ts o → BegunIf K ts (there o)
+pub begun_there : {X : Type 0} (K : Relation) (ts : List Symbol) (o : ReadResult X) → BegunIf K ts o → BegunIf K ts (there o)
 begun_there K ts (Ok a) h = tt
 begun_there K ts (Err e) h = h
 
-pub begun_one : {X : Type 0} (K : Relation) (ts : List Symbol) (o : Outcome X) → BegunIf K ts o → BegunIf K ts (one o)
+pub begun_one : {X : Type 0} (K : Relation) (ts : List Symbol) (o : ReadResult X) → BegunIf K ts o → BegunIf K ts (one o)
 begun_one K ts (Ok a) h = tt
 begun_one K ts (Err e) h = h
 
@@ -99,39 +99,39 @@ begun_one_there K ts (Ok None) h = tt
 begun_one_there K ts (Ok (Some a)) h = tt
 begun_one_there K ts (Err e) h = h
 
-pub begun_front : {X : Type 0} (K : Relation) (ts : List Symbol) (xs : List X) (o : Outcome (List X)) → BegunIf K ts o → BegunIf K ts (with_front xs o)
+pub begun_front : {X : Type 0} (K : Relation) (ts : List Symbol) (xs : List X) (o : ReadResult (List X)) → BegunIf K ts o → BegunIf K ts (with_front xs o)
 begun_front K ts xs (Ok a) h = tt
 begun_front K ts xs (Err e) h = h
 
 -- what is read alike is sound alike
-again_sound : {A : Type 0} (R : List Symbol → Outcome A) (G : Relation) (us : List Symbol) (a : Read A) → R us ≡ Ok a → IfOk (R us) (λ x. G us x.rest) → G us a.rest
+again_sound : {A : Type 0} (R : List Symbol → ReadResult A) (G : Relation) (us : List Symbol) (a : Read A) → R us ≡ Ok a → IfOk (R us) (λ x. G us x.rest) → G us a.rest
 again_sound R G us a e h = subst (λ o. IfOk o (λ x. G us x.rest)) e h
 
 -- a step, and what follows it where the step is so
-pub begun_when : {A B : Type 0} (j : ℕ) (R : List Symbol → Outcome A) (H : Read A → Outcome B) (G S K : Relation) (ts : List Symbol) → Steady j R ts → ((us : List Symbol) → IfOk (R us) (λ a. G us a.rest)) →
+pub begun_when : {A B : Type 0} (j : ℕ) (R : List Symbol → ReadResult A) (H : Read A → ReadResult B) (G S K : Relation) (ts : List Symbol) → Steady j R ts → ((us : List Symbol) → IfOk (R us) (λ a. G us a.rest)) →
     ((n m r : List Symbol) → G n m → S m r → K n r) → Filled S → BegunIf G ts (R ts) → ((a : Read A) → R ts ≡ Ok a → BegunIf S a.rest (H a)) → BegunIf K ts (R ts >>= H)
 begun_when {A} {B} j R H G S K ts steady sound join filled first next = by (R ts) refl steady first
   where
-    behind_it : (a : Read A) → Goes A j R ts a → (o : Outcome B) → BegunIf S a.rest o → BegunIf K ts o
+    behind_it : (a : Read A) → Goes A j R ts a → (o : ReadResult B) → BegunIf S a.rest o → BegunIf K ts o
     behind_it a g (Ok b) h = tt
     behind_it a g (Err f) h =
         begun_as S K g.front ts a.rest f (λ r. r) g.parts
         (λ n r same s. join (g.front ++ n) n r (again_sound R G (g.front ++ n) (record { value = a.value; rest = n }) (g.again n same) (sound (g.front ++ n))) s) h
 
-    by : (o : Outcome A) → R ts ≡ o → SteadyBy j R ts o → BegunIf G ts o → BegunIf K ts (o >>= H)
+    by : (o : ReadResult A) → R ts ≡ o → SteadyBy j R ts o → BegunIf G ts o → BegunIf K ts (o >>= H)
     by (Ok a) e g h = behind_it a g (H a) (next a e)
     by (Err f) e w h = begun_as G K [] ts ts f filled.symbols refl (λ n r same g. join n (filled.symbols r) r g (filled.fills r)) h
 
 -- a step, and what follows it
-pub begun_then : {A B : Type 0} (j : ℕ) (R : List Symbol → Outcome A) (H : Read A → Outcome B) (G S K : Relation) (ts : List Symbol) → Steady j R ts → ((us : List Symbol) → IfOk (R us) (λ a. G us a.rest)) →
+pub begun_then : {A B : Type 0} (j : ℕ) (R : List Symbol → ReadResult A) (H : Read A → ReadResult B) (G S K : Relation) (ts : List Symbol) → Steady j R ts → ((us : List Symbol) → IfOk (R us) (λ a. G us a.rest)) →
     ((n m r : List Symbol) → G n m → S m r → K n r) → Filled S → BegunIf G ts (R ts) → ((a : A) (us : List Symbol) → BegunIf S us (H (record { value = a; rest = us }))) → BegunIf K ts (R ts >>= H)
 begun_then j R H G S K ts steady sound join filled first next = begun_when j R H G S K ts steady sound join filled first (λ a e. next a.value a.rest)
 
-and_same : {A B : Type 0} (o : Outcome A) (H : A → List Symbol → Outcome B) → (o >>= (λ a. H a.value a.rest)) ≡ and_then o H
+and_same : {A B : Type 0} (o : ReadResult A) (H : A → List Symbol → ReadResult B) → (o >>= (λ a. H a.value a.rest)) ≡ and_then o H
 and_same (Ok a) H = refl
 and_same (Err f) H = refl
 
-pub begun_and : {A B : Type 0} (j : ℕ) (R : List Symbol → Outcome A) (H : A → List Symbol → Outcome B) (G S K : Relation) (ts : List Symbol) → Steady j R ts → ((us : List Symbol) → IfOk (R us) (λ a. G us a.rest)) →
+pub begun_and : {A B : Type 0} (j : ℕ) (R : List Symbol → ReadResult A) (H : A → List Symbol → ReadResult B) (G S K : Relation) (ts : List Symbol) → Steady j R ts → ((us : List Symbol) → IfOk (R us) (λ a. G us a.rest)) →
     ((n m r : List Symbol) → G n m → S m r → K n r) → Filled S → BegunIf G ts (R ts) → ((a : A) (us : List Symbol) → BegunIf S us (H a us)) → BegunIf K ts (and_then (R ts) H)
 begun_and j R H G S K ts steady sound join filled first next =
     subst (λ o. BegunIf K ts o) (and_same (R ts) H) (begun_then j R (λ a. H a.value a.rest) G S K ts steady sound join filled first (λ a us. next a us))
@@ -161,7 +161,7 @@ unfolding behind
 begun_mark K end f us = no_limit K end us (seen f us)
 
 -- a word or mark that must stand there, and what follows it
-pub begun_marked : {B : Type 0} (end : Span) (f : Fixed) (H : Read Span → Outcome B) (S K : Relation) (ts : List Symbol) → ((n m r : List Symbol) → Mark f n m → S m r → K n r) → Filled S →
+pub begun_marked : {B : Type 0} (end : Span) (f : Fixed) (H : Read Span → ReadResult B) (S K : Relation) (ts : List Symbol) → ((n m r : List Symbol) → Mark f n m → S m r → K n r) → Filled S →
     ((a : Span) (us : List Symbol) → BegunIf S us (H (record { value = a; rest = us }))) → BegunIf K ts (behind end f ts >>= H)
 begun_marked end f H S K ts join filled next = begun_then 1 (behind end f) H (Mark f) S K ts (steady_behind end f ts) (mark_sound end f) join filled (begun_mark (Mark f) end f ts) next
 
@@ -179,7 +179,7 @@ pub filled_mark : (f : Fixed) → Filled (Mark f)
 filled_mark f = record { symbols = λ r. a_mark f ∷ r; fills = λ r. mark (a_mark f) refl }
 
 -- the value is changed alone
-pub begun_read : {A B : Type 0} (K : Relation) (ts : List Symbol) (o : Outcome A) (g : Read A → B) → BegunIf K ts o → BegunIf K ts (o >>= (λ a. read (g a) a.rest))
+pub begun_read : {A B : Type 0} (K : Relation) (ts : List Symbol) (o : ReadResult A) (g : Read A → B) → BegunIf K ts o → BegunIf K ts (o >>= (λ a. read (g a) a.rest))
 begun_read K ts (Ok a) g h = tt
 begun_read K ts (Err e) g h = h
 
@@ -191,7 +191,7 @@ behind_word w G K us a s o join h = subst (λ x. BegunIf K x o) (sym s.all) (beg
 abbrev pub EndedBy : Relation → Fixed → Relation
 EndedBy G f n r = (m : List Symbol) × (G n m × Mark f m r)
 
-pub begun_ended : {A B : Type 0} (j : ℕ) (R : List Symbol → Outcome A) (g : Read A → B) (end : Span) (f : Fixed) (G : Relation) (ts : List Symbol) → Steady j R ts → ((us : List Symbol) → IfOk (R us) (λ a. G us a.rest)) →
+pub begun_ended : {A B : Type 0} (j : ℕ) (R : List Symbol → ReadResult A) (g : Read A → B) (end : Span) (f : Fixed) (G : Relation) (ts : List Symbol) → Steady j R ts → ((us : List Symbol) → IfOk (R us) (λ a. G us a.rest)) →
     BegunIf G ts (R ts) → BegunIf (EndedBy G f) ts (R ts >>= (λ a. behind end f a.rest >>= (λ s. read (g a) s.rest)))
 begun_ended j R g end f G ts steady sound begun =
     begun_then j R (λ a. behind end f a.rest >>= (λ s. read (g a) s.rest)) G (Mark f) (EndedBy G f) ts steady sound (λ n m r x k. (m, (x, k))) (filled_mark f) begun
@@ -212,26 +212,26 @@ begun_opened end f p us = opened_limit f p us end (seen f us) (seen-sound f us)
 opened_mark : (end : Span) (f : Fixed) (p : ℕ) (us : List Symbol) → IfOk (opened end f p us) (λ a. Mark f us a.rest)
 opened_mark end f p us = words.weaker (words.Opens f p us) (λ a. Mark f us a.rest) (opened end f p us) (words.opened-sound end f p us) (λ a h. subst (λ x. Mark f x a.rest) (sym h.all) (mark h.symbol h.is))
 
-pub begun_inside_it : {B : Type 0} (end : Span) (f : Fixed) (p : ℕ) (H : Read ℕ → Outcome B) (S K : Relation) (ts : List Symbol) → ((n m r : List Symbol) → Mark f n m → S m r → K n r) → Filled S →
+pub begun_inside_it : {B : Type 0} (end : Span) (f : Fixed) (p : ℕ) (H : Read ℕ → ReadResult B) (S K : Relation) (ts : List Symbol) → ((n m r : List Symbol) → Mark f n m → S m r → K n r) → Filled S →
     ((q : ℕ) (us : List Symbol) → p ≡ suc q → BegunIf S us (H (record { value = q; rest = us }))) → BegunIf K ts (opened end f p ts >>= H)
 begun_inside_it end f p H S K ts join filled next =
     begun_when 1 (opened end f p) H (Mark f) S K ts (steady_opened end f p ts) (opened_mark end f p) join filled (begun_opened end f p ts)
-    (λ a e. let P : Outcome ℕ → Type 0 = λ o. IfOk o (words.Opens f p ts) in let h : words.Opens f p ts a = subst P e (words.opened-sound end f p ts) in next a.value a.rest h.room)
+    (λ a e. let P : ReadResult ℕ → Type 0 = λ o. IfOk o (words.Opens f p ts) in let h : words.Opens f p ts a = subst P e (words.opened-sound end f p ts) in next a.value a.rest h.room)
 
 -- ---- lists with commas
 
-module _ {X : Type 0} (f : ℕ → List Symbol → Outcome (List X)) (end : Span) (I L : Relation) (items : (n : ℕ) (us : List Symbol) → Steady 1 (f n) us)
+module _ {X : Type 0} (f : ℕ → List Symbol → ReadResult (List X)) (end : Span) (I L : Relation) (items : (n : ℕ) (us : List Symbol) → Steady 1 (f n) us)
     (sound : (n : ℕ) (us : List Symbol) → IfOk (f n us) (λ a. I us a.rest)) (begun : (n : ℕ) (us : List Symbol) → BegunIf I us (f n us))
     (last : (n r : List Symbol) → I n r → L n r) (next : (n m k r : List Symbol) → I n m → Mark fixed.Comma m k → L k r → L n r) where
   -- a comma and more
   abbrev Behind : Relation
   Behind n r = (m : List Symbol) × (Mark fixed.Comma n m × L m r)
 
-  comma_behind : (us : List Symbol) (comma : Read Span) → words.Stands fixed.Comma us comma → (o : Outcome (List X)) → BegunIf L comma.rest o → BegunIf Behind us o
+  comma_behind : (us : List Symbol) (comma : Read Span) → words.Stands fixed.Comma us comma → (o : ReadResult (List X)) → BegunIf L comma.rest o → BegunIf Behind us o
   comma_behind us comma s o h =
       subst (λ x. BegunIf Behind x o) (sym s.all) (begun_behind L Behind s.symbol comma.rest o (λ n r l. (n, (mark s.symbol s.is, l))) h)
 
-  more_begun : (xs : List X) (more : List Symbol → Outcome (List X)) (us : List Symbol) (o : Option (Read Span)) → IfSome o (words.Stands fixed.Comma us) → ((vs : List Symbol) → BegunIf L vs (more vs)) →
+  more_begun : (xs : List X) (more : List Symbol → ReadResult (List X)) (us : List Symbol) (o : Option (Read Span)) → IfSome o (words.Stands fixed.Comma us) → ((vs : List Symbol) → BegunIf L vs (more vs)) →
       BegunIf Behind us (more_by more xs us o)
   more_begun xs more us None s h = tt
   more_begun xs more us (Some comma) s h = begun_front Behind us xs (more comma.rest) (comma_behind us comma s (more comma.rest) (h comma.rest))
@@ -242,13 +242,13 @@ module _ {X : Type 0} (f : ℕ → List Symbol → Outcome (List X)) (end : Span
   separated_begun zero n (t ∷ ts) = tt
   separated_begun (suc k) n ts = by (f n ts) (items n ts) (begun n ts) (λ m vs. separated_begun k m vs)
     where
-      behind_it : (a : Read (List X)) → Goes (List X) 1 (f n) ts a → (o : Outcome (List X)) → BegunIf Behind a.rest o → BegunIf L ts o
+      behind_it : (a : Read (List X)) → Goes (List X) 1 (f n) ts a → (o : ReadResult (List X)) → BegunIf Behind a.rest o → BegunIf L ts o
       behind_it a g (Ok b) h = tt
       behind_it a g (Err e) h =
           begun_as Behind L g.front ts a.rest e (λ r. r) g.parts
           (λ m r same w. next (g.front ++ m) m w.0 r (again_sound (f n) I (g.front ++ m) (record { value = a.value; rest = m }) (g.again m same) (sound n (g.front ++ m))) w.1.0 w.1.1) h
 
-      by : (o : Outcome (List X)) → SteadyBy 1 (f n) ts o → BegunIf I ts o → ((m : ℕ) (vs : List Symbol) → BegunIf L vs (separated f end m k vs)) →
+      by : (o : ReadResult (List X)) → SteadyBy 1 (f n) ts o → BegunIf I ts o → ((m : ℕ) (vs : List Symbol) → BegunIf L vs (separated f end m k vs)) →
           BegunIf L ts (o >>= (λ xs. more_by (separated f end (n - length xs.value) k) xs.value xs.rest (seen fixed.Comma xs.rest)))
       by (Ok a) g h again =
           behind_it a g (more_by (separated f end (n - length a.value) k) a.value a.rest (seen fixed.Comma a.rest))
@@ -268,7 +268,7 @@ module _ {X : Type 0} (f : ℕ → List Symbol → Possible (List X)) (used : Li
   repeated_begun zero n ts = tt
   repeated_begun (suc k) n ts = by (f n ts) (items n ts) (begun n ts) (λ m vs. repeated_begun k m vs)
     where
-      behind_it : (a : Read (List X)) → settled.Stands (List X) (f n) ts a → (o : Outcome (List X)) → BegunIf L a.rest o → BegunIf L ts (with_front a.value o)
+      behind_it : (a : Read (List X)) → settled.Stands (List X) (f n) ts a → (o : ReadResult (List X)) → BegunIf L a.rest o → BegunIf L ts (with_front a.value o)
       behind_it a g (Ok b) h = tt
       behind_it a g (Err e) h =
           begun_as L L g.front ts a.rest e (λ r. r) g.parts

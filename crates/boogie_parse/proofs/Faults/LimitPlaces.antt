@@ -11,7 +11,7 @@ use Rattle.boogie_parse.specs.declared.token.TokenKind.{TokenKind}
 use Rattle.boogie_parse.specs.declared.lexer.token.Token.{Token}
 use Rattle.boogie_parse.specs.Lexing.Pieces.{Shape, Lexeme, Quoted, RealLiteral, LargeLiteral, Stray, Piece, pieces}
 use Rattle.boogie_parse.specs.Lexing.Attributes.{begins_attribute, braced_length}
-use Rattle.boogie_parse.specs.Lexing.Lexed.{left_out, beside, supported, judged, inside_attribute, attribute, found_in, with_token, tokens_or_fault, lexed}
+use Rattle.boogie_parse.specs.Lexing.Lexed.{left_out, beside_text, supported, judged, inside_attribute, attribute, found_in, with_token, tokens_or_fault, lexed}
 use Rattle.boogie_parse.specs.Lexing.Symbols.{symbol}
 use Rattle.boogie_parse.specs.Rules.GrammarProgram.{no_declaration}
 use Rattle.boogie_parse.specs.Rules.WholeText.{text_end, read_tokens, read_text, IfLimit, CanStandAt, IsLimitAt}
@@ -38,7 +38,7 @@ supported_fine here kind text None = tt
 supported_fine here kind text (Some what) = tt
 
 judged_fine : (here : Span) (text : List ℕ) (shape : Shape) → IsFine (judged here text shape)
-judged_fine here text (Lexeme kind) = supported_fine here kind text (beside text left_out)
+judged_fine here text (Lexeme kind) = supported_fine here kind text (beside_text text left_out)
 judged_fine here text Quoted = tt
 judged_fine here text RealLiteral = tt
 judged_fine here text LargeLiteral = tt

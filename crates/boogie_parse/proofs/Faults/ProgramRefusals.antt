@@ -13,7 +13,7 @@ use Rattle.boogie_parse.specs.declared.symbols.Fixed.TheVariants as fixed
 use Rattle.boogie_parse.specs.declared.symbols.Sign.{Sign}
 use Rattle.boogie_parse.specs.declared.symbols.Sign.TheVariants as signs
 use Rattle.boogie_parse.specs.declared.symbols.Symbol.{Symbol}
-use Rattle.boogie_parse.specs.Reading.Outcomes.{Read, Outcome}
+use Rattle.boogie_parse.specs.Reading.Outcomes.{Read, ReadResult}
 use Rattle.boogie_parse.specs.Rules.GrammarProgram.{Head}
 use Rattle.boogie_parse.specs.Rules.GrammarLimits.{procedures_counted}
 use Rattle.boogie_parse.specs.Reading.ListReading.{◌>>=◌, Possible, there, one, one_there, seen, must_be, behind, name_by, name_at, new_name, with_front, more_by, separated, name_item, names_at, type_by, type_said, type_at, repeated_by, repeated, listed_names, group_at, variables_at, declared_behind, opened_by, opened, closed, listed_by, formals_at, results_by, results_at, expression_at, expression_item, expressions_at, arguments_at, guard_by, guard_at, claim_at, condition_behind, invariant_by, invariant_at, invariant_item, invariants_at}
@@ -37,11 +37,11 @@ then : {A B : Type 0} (x : Result A Fault) (f : A → Result B Fault) → Refuse
 then (Ok a) f h k = k a
 then (Err e) f h k = h
 
-refuse_there : {X : Type 0} (x : Outcome X) → Refuses x → Refuses (there x)
+refuse_there : {X : Type 0} (x : ReadResult X) → Refuses x → Refuses (there x)
 refuse_there (Ok a) h = tt
 refuse_there (Err e) h = h
 
-refuse_one : {X : Type 0} (x : Outcome X) → Refuses x → Refuses (one x)
+refuse_one : {X : Type 0} (x : ReadResult X) → Refuses x → Refuses (one x)
 refuse_one (Ok a) h = tt
 refuse_one (Err e) h = h
 
@@ -50,21 +50,21 @@ refuse_one_there (Ok None) h = tt
 refuse_one_there (Ok (Some a)) h = tt
 refuse_one_there (Err e) h = h
 
-refuse_front : {X : Type 0} (xs : List X) (x : Outcome (List X)) → Refuses x → Refuses (with_front xs x)
+refuse_front : {X : Type 0} (xs : List X) (x : ReadResult (List X)) → Refuses x → Refuses (with_front xs x)
 refuse_front xs (Ok a) h = tt
 refuse_front xs (Err e) h = h
 
-refuse_more : {X : Type 0} (f : List Symbol → Outcome (List X)) (xs : List X) (ts : List Symbol) (o : Option (Read Span)) → ((us : List Symbol) → Refuses (f us)) → Refuses (more_by f xs ts o)
+refuse_more : {X : Type 0} (f : List Symbol → ReadResult (List X)) (xs : List X) (ts : List Symbol) (o : Option (Read Span)) → ((us : List Symbol) → Refuses (f us)) → Refuses (more_by f xs ts o)
 refuse_more f xs ts None h = tt
 refuse_more f xs ts (Some comma) h = refuse_front xs (f comma.rest) (h comma.rest)
 
-refuse_separated : {X : Type 0} (f : ℕ → List Symbol → Outcome (List X)) → ((n : ℕ) (ts : List Symbol) → Refuses (f n ts)) → (end : Span) (turns n : ℕ) (ts : List Symbol) → Refuses (separated f end n turns ts)
+refuse_separated : {X : Type 0} (f : ℕ → List Symbol → ReadResult (List X)) → ((n : ℕ) (ts : List Symbol) → Refuses (f n ts)) → (end : Span) (turns n : ℕ) (ts : List Symbol) → Refuses (separated f end n turns ts)
 unfolding separated
 refuse_separated f h end zero n ts = tt
 refuse_separated f h end (suc turns) n ts =
     then (f n ts) _ (h n ts) (λ xs. refuse_more (separated f end (n - length xs.value) turns) xs.value xs.rest (seen fixed.Comma xs.rest) (λ us. refuse_separated f h end turns (n - length xs.value) us))
 
-refuse_repeated_by : {X : Type 0} (f : List X → List Symbol → Outcome (List X)) (ts : List Symbol) (x : Possible (List X)) → Refuses x → ((xs : List X) (us : List Symbol) → Refuses (f xs us)) → Refuses (repeated_by f ts x)
+refuse_repeated_by : {X : Type 0} (f : List X → List Symbol → ReadResult (List X)) (ts : List Symbol) (x : Possible (List X)) → Refuses x → ((xs : List X) (us : List Symbol) → Refuses (f xs us)) → Refuses (repeated_by f ts x)
 refuse_repeated_by f ts (Ok None) h k = tt
 refuse_repeated_by f ts (Ok (Some a)) h k = refuse_front a.value (f a.value a.rest) (k a.value a.rest)
 refuse_repeated_by f ts (Err e) h k = h
@@ -134,7 +134,7 @@ refuse_declared end n ts =
     then (variables_at end n ts) _ (refuse_variables end n ts) (λ vs.
     then (behind end fixed.Semicolon vs.rest) _ (refuse_behind end fixed.Semicolon vs.rest) (λ semicolon. tt))
 
-refuse_opened_by : (p : ℕ) (o : Outcome Span) → Refuses o → Refuses (opened_by p o)
+refuse_opened_by : (p : ℕ) (o : ReadResult Span) → Refuses o → Refuses (opened_by p o)
 refuse_opened_by zero (Ok r) h = tt
 refuse_opened_by (suc p) (Ok r) h = tt
 refuse_opened_by zero (Err e) h = h
@@ -147,7 +147,7 @@ refuse_opened end w p ts = refuse_opened_by p (behind end w ts) (refuse_behind e
 refuse_closed : {X : Type 0} (end : Span) (x : X) (ts : List Symbol) → Refuses (closed end x ts)
 refuse_closed end x ts = then (behind end fixed.CloseParenthesis ts) _ (refuse_behind end fixed.CloseParenthesis ts) (λ parenthesis. tt)
 
-refuse_listed : {X : Type 0} (end : Span) (f : List Symbol → Outcome (List X)) (ts : List Symbol) (o : Option (Read Span)) → ((us : List Symbol) → Refuses (f us)) → Refuses (listed_by end f ts o)
+refuse_listed : {X : Type 0} (end : Span) (f : List Symbol → ReadResult (List X)) (ts : List Symbol) (o : Option (Read Span)) → ((us : List Symbol) → Refuses (f us)) → Refuses (listed_by end f ts o)
 refuse_listed end f ts (Some r) h = tt
 refuse_listed end f ts None h = then (f ts) _ (h ts) (λ xs. refuse_closed end xs.value xs.rest)
 
@@ -219,7 +219,7 @@ record RefusesInside (i : Inside) : Type 0 where
   block : (ts : List Symbol) → Refuses (i.block ts)
   branch : (here : Span) (ts : List Symbol) → Refuses (i.branch here ts)
 
-module _ (reads : ℕ → List Symbol → Outcome Expression) (end : Span) (refused : (p : ℕ) (ts : List Symbol) → Refuses (reads p ts)) (p : ℕ) where
+module _ (reads : ℕ → List Symbol → ReadResult Expression) (end : Span) (refused : (p : ℕ) (ts : List Symbol) → Refuses (reads p ts)) (p : ℕ) where
   refuse_expressions : (q : ℕ) (ts : List Symbol) → Refuses (expressions_at reads end q ts)
   unfolding expressions_at
   refuse_expressions q ts = refuse_separated (expression_item reads q) (λ n us. refuse_one (reads q us) (refused q us)) end (length ts) 0 ts
@@ -488,7 +488,7 @@ is_of_programs (faults.Limit limits.Variables line col) h = tt
 is_of_programs (faults.Unsupported what line col) h = h
 is_of_programs faults.Memory h = h
 
-widen : {X : Type 0} (x : Outcome X) → IfErr x (IsRefusal IsOfExpressions) → Refuses x
+widen : {X : Type 0} (x : ReadResult X) → IfErr x (IsRefusal IsOfExpressions) → Refuses x
 widen (Ok a) h = tt
 widen (Err f) h = is_of_programs f h
 

@@ -12,7 +12,7 @@ use Rattle.boogie_parse.specs.declared.symbols.Fixed.TheVariants as fixed
 use Rattle.boogie_parse.specs.declared.symbols.Sign.{Sign}
 use Rattle.boogie_parse.specs.declared.symbols.Sign.TheVariants as signs
 use Rattle.boogie_parse.specs.declared.symbols.Symbol.{Symbol}
-use Rattle.boogie_parse.specs.Reading.Outcomes.{Read, Outcome, place_or, syntax_fault, limit_fault, refused}
+use Rattle.boogie_parse.specs.Reading.Outcomes.{Read, ReadResult, place_or, syntax_fault, limit_fault, refused}
 use Rattle.boogie_parse.specs.Rules.GrammarProgram.{Head}
 use Rattle.boogie_parse.specs.Rules.GrammarLimits.{procedures_counted}
 use Rattle.boogie_parse.specs.Reading.ListReading.{◌>>=◌, read, Possible, there, one, seen, must_be, behind, name_by, name_at, new_name, with_front, more_by, separated, name_item, names_at, type_by, type_said, type_at, listed_names, group_at, variables_at, declared_behind, opened_by, opened, closed, listed_by, formals_at, results_by, results_at, expression_at, expression_item, expressions_at, arguments_at, guard_by, guard_at, claim_at, condition_behind, invariant_by, invariant_at, invariant_item, invariants_at}
@@ -38,7 +38,7 @@ unfolding name_at
 steady_name end [] = tt
 steady_name end (t ∷ r) = by_head 1 (tail (λ us. name_by t.span us t.sign)) (name_at end) t r (λ us. refl) (name_sign t r t.sign)
 
-abbrev past : Read Name → Outcome Name
+abbrev past : Read Name → ReadResult Name
 past x = Err (limit_fault limits.Variables x.value.span)
 
 past_sign : (t : Symbol) (r : List Symbol) (s : Sign) → Steady 1 (tail (λ us. name_by t.span us s >>= past)) (t ∷ r)
@@ -62,7 +62,7 @@ unfolding names_at
 steady_names end n ts = separated_steady (name_item end) end (λ m us. mapped 1 (new_name end m) one (λ x. x ∷ []) us (λ x r. refl) (λ e. refl) (steady_new_name end m us)) (no_new_name end) n ts
 
 -- names, whatever room there is
-abbrev pub plain_item : Span → ℕ → List Symbol → Outcome (List Name)
+abbrev pub plain_item : Span → ℕ → List Symbol → ReadResult (List Name)
 plain_item end n us = one (name_at end us)
 
 pub plain_steady : (end : Span) (n : ℕ) (us : List Symbol) → Steady 1 (plain_item end n) us
@@ -93,7 +93,7 @@ room_enough end (suc k) (suc n) m (t ∷ us) low = by (λ a b vs h. room_enough 
     by again (signs.Fixed w) = refl
     by again (signs.Number n) = refl
 
-abbrev pub plain_names : Span → ℕ → List Symbol → Outcome (List Name)
+abbrev pub plain_names : Span → ℕ → List Symbol → ReadResult (List Name)
 plain_names end n us = separated (plain_item end) end n (length us) us
 
 pub all_names : (end : Span) (us : List Symbol) → names_at end (length us) us ≡ plain_names end 0 us
@@ -104,7 +104,7 @@ pub steady_all_names : (end : Span) (ts : List Symbol) → Steady 1 (λ us. name
 steady_all_names end ts = steady_all 1 (plain_names end 0) (λ us. names_at end (length us) us) ts (all_names end) (separated_steady (plain_item end) end (plain_steady end) (no_plain end) 0 ts)
 
 -- the names behind the first one
-abbrev pub names_behind : Span → Name → List Symbol → Outcome (List Name)
+abbrev pub names_behind : Span → Name → List Symbol → ReadResult (List Name)
 names_behind end x us = more_by (plain_names end (0 - length (x ∷ []))) (x ∷ []) us (seen fixed.Comma us)
 
 pub names_from : (end : Span) (t : Symbol) (x : List ℕ) (us : List Symbol) → t.sign ≡ signs.Name x → names_at end (length (t ∷ us)) (t ∷ us) ≡ names_behind end (record { span = t.span; text = x }) us
@@ -169,7 +169,7 @@ steady_opened end w (suc p) ts = seen_first w (λ us o. opened_by (suc p) (must_
 pub steady_closed : {X : Type 0} (end : Span) (x : X) (ts : List Symbol) → Steady 0 (closed end x) ts
 steady_closed end x ts = next (behind end fixed.CloseParenthesis) _ ts (steady_behind end fixed.CloseParenthesis ts) (λ parenthesis. taken_none x parenthesis.rest)
 
-pub steady_listed : {X : Type 0} (end : Span) (f : List Symbol → Outcome (List X)) → ((us : List Symbol) → Steady 1 f us) → (ts : List Symbol) → Steady 0 (λ us. listed_by end f us (seen fixed.CloseParenthesis us)) ts
+pub steady_listed : {X : Type 0} (end : Span) (f : List Symbol → ReadResult (List X)) → ((us : List Symbol) → Steady 1 f us) → (ts : List Symbol) → Steady 0 (λ us. listed_by end f us (seen fixed.CloseParenthesis us)) ts
 steady_listed end f h ts = seen_next fixed.CloseParenthesis (λ us o. listed_by end f us o) ts (next f _ ts (h ts) (λ xs. steady_closed end xs.value xs.rest)) (λ t r e. taken_none [] r)
 
 pub steady_formals : (end : Span) (p n : ℕ) (ts : List Symbol) → Steady 1 (formals_at end p n) ts
@@ -231,7 +231,7 @@ pub record SteadyInside (i : Inside) : Type 0 where
   pub branch : (t : Symbol) (r : List Symbol) → Steady 1 (tail (i.branch t.span)) (t ∷ r)
 
 -- it must stand there
-abbrev pub standing : {X : Type 0} → Span → List Symbol → Possible X → Outcome X
+abbrev pub standing : {X : Type 0} → Span → List Symbol → Possible X → ReadResult X
 standing end ts (Ok None) = Err (syntax_fault (place_or end ts))
 standing end ts (Ok (Some r)) = Ok r
 standing end ts (Err f) = Err f
@@ -244,7 +244,7 @@ steady_standing {X} end R ts h = by (R ts) h
     by (Ok (Some a)) g = record { front = g.front; taken = g.taken; parts = g.parts; again = λ m s. ap (standing end (g.front ++ m)) (g.again m s) }
     by (Err f) w = stop_as R (λ us. standing end us (R us)) [] ts ts f refl (λ m s e q. ap (standing end m) q) w
 
-module _ (reads : ℕ → List Symbol → Outcome Expression) (end : Span) (steady : (p : ℕ) (ts : List Symbol) → Steady 1 (reads p) ts) (none : (p : ℕ) → reads p [] ≡ refused end []) (p : ℕ) where
+module _ (reads : ℕ → List Symbol → ReadResult Expression) (end : Span) (steady : (p : ℕ) (ts : List Symbol) → Steady 1 (reads p) ts) (none : (p : ℕ) → reads p [] ≡ refused end []) (p : ℕ) where
   pub steady_expressions : (q : ℕ) (ts : List Symbol) → Steady 1 (expressions_at reads end q) ts
   unfolding expressions_at
   steady_expressions q ts = separated_steady (expression_item reads q) end (λ n us. mapped 1 (reads q) one (λ x. x ∷ []) us (λ x r. refl) (λ e. refl) (steady q us)) (λ n. ap one (none q)) 0 ts
@@ -305,7 +305,7 @@ module _ (reads : ℕ → List Symbol → Outcome Expression) (end : Span) (stea
       next (expressions_at reads end p) _ becomes.rest (steady_expressions p becomes.rest) (λ es.
       next (behind end fixed.Semicolon) _ es.rest (steady_behind end fixed.Semicolon es.rest) (λ semicolon. taken_none _ semicolon.rest)))))
     where
-      rest : Read (List Name) → Outcome Statement
+      rest : Read (List Name) → ReadResult Statement
       rest xs = do
         becomes ← behind end fixed.Becomes xs.rest
         es ← expressions_at reads end p becomes.rest
@@ -321,7 +321,7 @@ module _ (reads : ℕ → List Symbol → Outcome Expression) (end : Span) (stea
       next (behind end fixed.Becomes) _ xs.rest (steady_behind end fixed.Becomes xs.rest) (λ becomes.
       next (name_at end) _ becomes.rest (steady_name end becomes.rest) (λ f. weaker (called_at reads end p here xs.value f.value) f.rest (steady_called here xs.value f.value f.rest)))))
     where
-      rest : Read (List Name) → Outcome Statement
+      rest : Read (List Name) → ReadResult Statement
       rest xs = do
         becomes ← behind end fixed.Becomes xs.rest
         f ← name_at end becomes.rest
@@ -418,7 +418,7 @@ module _ (reads : ℕ → List Symbol → Outcome Expression) (end : Span) (stea
       by_seen 1 fixed.OpenBrace (λ us o. must_be end us o >>= too_many) ts tt
       (λ t r e. by_limit 1 (tail (λ us. must_be end (t ∷ us) (Some (record { value = t.span; rest = us })) >>= too_many)) t r limits.Nesting (λ us. refl))
     where
-      too_many : Read Span → Outcome Block
+      too_many : Read Span → ReadResult Block
       too_many brace = Err (limit_fault limits.Nesting brace.value)
 
   pub steady_no_branch : (t : Symbol) (r : List Symbol) → Steady 1 (tail (no_branch reads end p t.span)) (t ∷ r)
@@ -537,7 +537,7 @@ module _ (reads : ℕ → List Symbol → Outcome Expression) (end : Span) (stea
       no_limit ds [] kind line col is = cc
       no_limit ds (t ∷ ts) kind line col is = cc
 
-      settled_by : (n : ℕ) (ts : List Symbol) (kind : Which) (line col : ℕ) (o : Outcome (List Declaration)) → SteadyBy 0 (declarations_at reads end p b v n) ts o → (o >>= (λ ds. finished end ds ds.rest)) ≡ Err (faults.Limit kind line col) →
+      settled_by : (n : ℕ) (ts : List Symbol) (kind : Which) (line col : ℕ) (o : ReadResult (List Declaration)) → SteadyBy 0 (declarations_at reads end p b v n) ts o → (o >>= (λ ds. finished end ds ds.rest)) ≡ Err (faults.Limit kind line col) →
           IsSettled (List Declaration) (program_at reads end p b v n) ts kind line col
       unfolding program_at
       settled_by n ts kind line col (Ok ds) g is = absurd (no_limit ds ds.rest kind line col is)

@@ -8,7 +8,7 @@ use Rattle.boogie_parse.specs.declared.fault.Which.{Which}
 use Rattle.boogie_parse.specs.declared.symbols.Fixed.{Fixed}
 use Rattle.boogie_parse.specs.declared.symbols.Fixed.TheVariants as fixed
 use Rattle.boogie_parse.specs.declared.symbols.Symbol.{Symbol}
-use Rattle.boogie_parse.specs.Reading.Outcomes.{Read, Outcome, syntax_fault, limit_fault, refused, and_then}
+use Rattle.boogie_parse.specs.Reading.Outcomes.{Read, ReadResult, syntax_fault, limit_fault, refused, and_then}
 use Rattle.boogie_parse.specs.Reading.ListReading.{◌>>=◌, read, Possible, there, one_there, says, seen, with_front, more_by, separated, repeated_by, repeated}
 use Rattle.boogie_parse.specs.Ties.Settled.{IsSettled}
 
@@ -23,7 +23,7 @@ same_front [] r m s = s
 same_front (t ∷ front) r m s = refl
 
 -- what is read takes k symbols or more, and is read the same before whatever begins with the symbol that follows it
-pub record Goes (X : Type 0) (k : ℕ) (R : List Symbol → Outcome X) (ts : List Symbol) (a : Read X) : Type 0 where
+pub record Goes (X : Type 0) (k : ℕ) (R : List Symbol → ReadResult X) (ts : List Symbol) (a : Read X) : Type 0 where
   pub front : List Symbol
   pub taken : k ≤ length front
   pub parts : ts ≡ front ++ a.rest
@@ -42,12 +42,12 @@ StopsBy R ts (faults.Syntax line col) = Unit {0}
 StopsBy R ts (faults.Unsupported what line col) = Unit {0}
 StopsBy R ts faults.Memory = Unit {0}
 
-abbrev pub SteadyBy : {X : Type 0} → ℕ → (List Symbol → Outcome X) → List Symbol → Outcome X → Type 0
+abbrev pub SteadyBy : {X : Type 0} → ℕ → (List Symbol → ReadResult X) → List Symbol → ReadResult X → Type 0
 SteadyBy {X} k R ts (Ok a) = Goes X k R ts a
 SteadyBy k R ts (Err f) = StopsBy R ts f
 
 -- the reading is so, and takes k symbols or more
-abbrev pub Steady : {X : Type 0} → ℕ → (List Symbol → Outcome X) → List Symbol → Type 0
+abbrev pub Steady : {X : Type 0} → ℕ → (List Symbol → ReadResult X) → List Symbol → Type 0
 Steady k R ts = SteadyBy k R ts (R ts)
 
 abbrev pub MaybeBy : {X : Type 0} → (List Symbol → Possible X) → List Symbol → Possible X → Type 0
@@ -77,7 +77,7 @@ stop_as R S front ts us (faults.Syntax line col) parts pass s = tt
 stop_as R S front ts us (faults.Unsupported what line col) parts pass s = tt
 stop_as R S front ts us faults.Memory parts pass s = tt
 
-pub goes_as : {X Y : Type 0} (j k : ℕ) (R : List Symbol → Outcome X) (S : List Symbol → Outcome Y) (front ts us : List Symbol) (a : Read X) (y : Y) → ts ≡ front ++ us → k ≤ length front + j →
+pub goes_as : {X Y : Type 0} (j k : ℕ) (R : List Symbol → ReadResult X) (S : List Symbol → ReadResult Y) (front ts us : List Symbol) (a : Read X) (y : Y) → ts ≡ front ++ us → k ≤ length front + j →
     ((m : List Symbol) → SameHead us m → (r : List Symbol) → R m ≡ read a.value r → S (front ++ m) ≡ read y r) → Goes X j R us a → Goes Y k S ts (record { value = y; rest = a.rest })
 goes_as j k R S front ts us a y parts enough pass g =
     record {
@@ -92,47 +92,47 @@ goes_as j k R S front ts us a y parts enough pass g =
 -- ---- steps
 
 -- a step, and what follows it
-pub then_known : {X Y : Type 0} (j k : ℕ) → k ≤ j → (R : List Symbol → Outcome X) (H : Read X → Outcome Y) (ts : List Symbol) → Steady j R ts →
+pub then_known : {X Y : Type 0} (j k : ℕ) → k ≤ j → (R : List Symbol → ReadResult X) (H : Read X → ReadResult Y) (ts : List Symbol) → Steady j R ts →
     ((a : Read X) → Goes X j R ts a → Steady 0 (λ us. H (record { value = a.value; rest = us })) a.rest) → Steady k (λ us. R us >>= H) ts
 then_known {X} {Y} j k low R H ts h c = by (R ts) h
   where
-    behind_it : (a : Read X) → Goes X j R ts a → (o : Outcome Y) → SteadyBy 0 (λ us. H (record { value = a.value; rest = us })) a.rest o → SteadyBy k (λ us. R us >>= H) ts o
+    behind_it : (a : Read X) → Goes X j R ts a → (o : ReadResult Y) → SteadyBy 0 (λ us. H (record { value = a.value; rest = us })) a.rest o → SteadyBy k (λ us. R us >>= H) ts o
     behind_it a g (Ok b) w =
         goes_as 0 k (λ us. H (record { value = a.value; rest = us })) (λ us. R us >>= H) g.front ts a.rest b b.value g.parts (omega (arith, low, g.taken))
         (λ m s r e. ap (λ z. z >>= H) (g.again m s) ∙ e) w
     behind_it a g (Err f) w = stop_as (λ us. H (record { value = a.value; rest = us })) (λ us. R us >>= H) g.front ts a.rest f g.parts (λ m s e q. ap (λ z. z >>= H) (g.again m s) ∙ q) w
 
-    by : (o : Outcome X) → SteadyBy j R ts o → SteadyBy k (λ us. R us >>= H) ts (o >>= H)
+    by : (o : ReadResult X) → SteadyBy j R ts o → SteadyBy k (λ us. R us >>= H) ts (o >>= H)
     by (Ok a) g = behind_it a g (H a) (c a g)
     by (Err f) w = stop_as R (λ us. R us >>= H) [] ts ts f refl (λ m s e q. ap (λ z. z >>= H) q) w
 
 -- a first step, which takes a symbol
-pub first : {X Y : Type 0} (R : List Symbol → Outcome X) (H : Read X → Outcome Y) (ts : List Symbol) → Steady 1 R ts → ((a : Read X) → Steady 0 (λ us. H (record { value = a.value; rest = us })) a.rest) → Steady 1 (λ us. R us >>= H) ts
+pub first : {X Y : Type 0} (R : List Symbol → ReadResult X) (H : Read X → ReadResult Y) (ts : List Symbol) → Steady 1 R ts → ((a : Read X) → Steady 0 (λ us. H (record { value = a.value; rest = us })) a.rest) → Steady 1 (λ us. R us >>= H) ts
 first R H ts h c = then_known 1 1 (omega arith) R H ts h (λ a g. c a)
 
 -- a further step
-pub next : {X Y : Type 0} (R : List Symbol → Outcome X) (H : Read X → Outcome Y) (ts : List Symbol) → Steady 1 R ts → ((a : Read X) → Steady 0 (λ us. H (record { value = a.value; rest = us })) a.rest) → Steady 0 (λ us. R us >>= H) ts
+pub next : {X Y : Type 0} (R : List Symbol → ReadResult X) (H : Read X → ReadResult Y) (ts : List Symbol) → Steady 1 R ts → ((a : Read X) → Steady 0 (λ us. H (record { value = a.value; rest = us })) a.rest) → Steady 0 (λ us. R us >>= H) ts
 next R H ts h c = then_known 1 0 (omega arith) R H ts h (λ a g. c a)
 
 -- a step that may take none
-pub perhaps : {X Y : Type 0} (R : List Symbol → Outcome X) (H : Read X → Outcome Y) (ts : List Symbol) → Steady 0 R ts → ((a : Read X) → Steady 0 (λ us. H (record { value = a.value; rest = us })) a.rest) → Steady 0 (λ us. R us >>= H) ts
+pub perhaps : {X Y : Type 0} (R : List Symbol → ReadResult X) (H : Read X → ReadResult Y) (ts : List Symbol) → Steady 0 R ts → ((a : Read X) → Steady 0 (λ us. H (record { value = a.value; rest = us })) a.rest) → Steady 0 (λ us. R us >>= H) ts
 perhaps R H ts h c = then_known 0 0 (omega arith) R H ts h (λ a g. c a)
 
 -- the same on all that begin so
-pub steady_as : {X : Type 0} (k : ℕ) (R S : List Symbol → Outcome X) (ts : List Symbol) → ((m : List Symbol) → SameHead ts m → S m ≡ R m) → S ts ≡ R ts → Steady k R ts → Steady k S ts
+pub steady_as : {X : Type 0} (k : ℕ) (R S : List Symbol → ReadResult X) (ts : List Symbol) → ((m : List Symbol) → SameHead ts m → S m ≡ R m) → S ts ≡ R ts → Steady k R ts → Steady k S ts
 steady_as {X} k R S ts eq e h = subst (SteadyBy k S ts) (sym e) (by (R ts) h)
   where
-    by : (o : Outcome X) → SteadyBy k R ts o → SteadyBy k S ts o
+    by : (o : ReadResult X) → SteadyBy k R ts o → SteadyBy k S ts o
     by (Ok a) g = goes_as k k R S [] ts ts a a.value refl (omega arith) (λ m s r q. eq m s ∙ q) g
     by (Err f) w = stop_as R S [] ts ts f refl (λ m s x q. eq m s ∙ q) w
 
-pub steady_all : {X : Type 0} (k : ℕ) (R S : List Symbol → Outcome X) (ts : List Symbol) → ((m : List Symbol) → S m ≡ R m) → Steady k R ts → Steady k S ts
+pub steady_all : {X : Type 0} (k : ℕ) (R S : List Symbol → ReadResult X) (ts : List Symbol) → ((m : List Symbol) → S m ≡ R m) → Steady k R ts → Steady k S ts
 steady_all k R S ts eq h = steady_as k R S ts (λ m s. eq m) (eq ts) h
 
-pub weaker : {X : Type 0} (R : List Symbol → Outcome X) (ts : List Symbol) → Steady 1 R ts → Steady 0 R ts
+pub weaker : {X : Type 0} (R : List Symbol → ReadResult X) (ts : List Symbol) → Steady 1 R ts → Steady 0 R ts
 weaker {X} R ts h = by (R ts) h
   where
-    by : (o : Outcome X) → SteadyBy 1 R ts o → SteadyBy 0 R ts o
+    by : (o : ReadResult X) → SteadyBy 1 R ts o → SteadyBy 0 R ts o
     by (Ok a) g = goes_as 1 0 R R [] ts ts a a.value refl (omega arith) (λ m s r q. q) g
     by (Err f) w = w
 
@@ -141,75 +141,75 @@ on_head P t h r [] s = absurd s
 on_head P t h r (u ∷ us) s = subst (λ x. P (x ∷ us)) s (h us)
 
 -- the same on all that begin with that symbol
-pub by_head : {X : Type 0} (k : ℕ) (R S : List Symbol → Outcome X) (t : Symbol) (r : List Symbol) → ((us : List Symbol) → S (t ∷ us) ≡ R (t ∷ us)) → Steady k R (t ∷ r) → Steady k S (t ∷ r)
+pub by_head : {X : Type 0} (k : ℕ) (R S : List Symbol → ReadResult X) (t : Symbol) (r : List Symbol) → ((us : List Symbol) → S (t ∷ us) ≡ R (t ∷ us)) → Steady k R (t ∷ r) → Steady k S (t ∷ r)
 by_head k R S t r eq h = steady_as k R S (t ∷ r) (on_head (λ m. S m ≡ R m) t eq r) (eq r) h
 
 -- the symbol is taken, and what follows it is read
-pub by_tail : {X : Type 0} (Q S : List Symbol → Outcome X) (t : Symbol) (r : List Symbol) → ((us : List Symbol) → S (t ∷ us) ≡ Q us) → Steady 0 Q r → Steady 1 S (t ∷ r)
+pub by_tail : {X : Type 0} (Q S : List Symbol → ReadResult X) (t : Symbol) (r : List Symbol) → ((us : List Symbol) → S (t ∷ us) ≡ Q us) → Steady 0 Q r → Steady 1 S (t ∷ r)
 by_tail {X} Q S t r eq h = subst (SteadyBy 1 S (t ∷ r)) (sym (eq r)) (by (Q r) h)
   where
-    by : (o : Outcome X) → SteadyBy 0 Q r o → SteadyBy 1 S (t ∷ r) o
+    by : (o : ReadResult X) → SteadyBy 0 Q r o → SteadyBy 1 S (t ∷ r) o
     by (Ok a) g = goes_as 0 1 Q S (t ∷ []) (t ∷ r) r a a.value refl (omega arith) (λ m s x q. eq m ∙ q) g
     by (Err f) w = stop_as Q S (t ∷ []) (t ∷ r) r f refl (λ m s x q. eq m ∙ q) w
 
 -- the symbol is past a limit
-pub by_limit : {X : Type 0} (k : ℕ) (S : List Symbol → Outcome X) (t : Symbol) (r : List Symbol) (kind : Which) → ((us : List Symbol) → S (t ∷ us) ≡ Err (limit_fault kind t.span)) → Steady k S (t ∷ r)
+pub by_limit : {X : Type 0} (k : ℕ) (S : List Symbol → ReadResult X) (t : Symbol) (r : List Symbol) (kind : Which) → ((us : List Symbol) → S (t ∷ us) ≡ Err (limit_fault kind t.span)) → Steady k S (t ∷ r)
 by_limit k S t r kind eq = subst (SteadyBy k S (t ∷ r)) (sym (eq r)) (record { before = []; symbol = t; after = r; parts = refl; place = refl; settled = eq })
 
-pub by_syntax : {X : Type 0} (k : ℕ) (S : List Symbol → Outcome X) (ts : List Symbol) (here : Span) → S ts ≡ Err (syntax_fault here) → Steady k S ts
+pub by_syntax : {X : Type 0} (k : ℕ) (S : List Symbol → ReadResult X) (ts : List Symbol) (here : Span) → S ts ≡ Err (syntax_fault here) → Steady k S ts
 by_syntax k S ts here e = subst (SteadyBy k S ts) (sym e) tt
 
 pub taken_none : {X : Type 0} (x : X) (ts : List Symbol) → Steady 0 (λ us. read x us) ts
 taken_none x ts = record { front = []; taken = omega arith; parts = refl; again = λ m s. refl }
 
 -- no symbols at all settle nothing
-pub by_none : {X : Type 0} (k : ℕ) (R S : List Symbol → Outcome X) → S [] ≡ R [] → Steady k R [] → Steady k S []
+pub by_none : {X : Type 0} (k : ℕ) (R S : List Symbol → ReadResult X) → S [] ≡ R [] → Steady k R [] → Steady k S []
 by_none k R S e h = steady_as k R S [] (λ m s. absurd s) e h
 
-and_is : {X Y : Type 0} (x : Outcome X) (G : X → List Symbol → Outcome Y) → and_then x G ≡ (x >>= (λ a. G a.value a.rest))
+and_is : {X Y : Type 0} (x : ReadResult X) (G : X → List Symbol → ReadResult Y) → and_then x G ≡ (x >>= (λ a. G a.value a.rest))
 and_is (Ok a) G = refl
 and_is (Err f) G = refl
 
-pub first_and : {X Y : Type 0} (R : List Symbol → Outcome X) (G : X → List Symbol → Outcome Y) (ts : List Symbol) → Steady 1 R ts → ((a : X) (r : List Symbol) → Steady 0 (G a) r) → Steady 1 (λ us. and_then (R us) G) ts
+pub first_and : {X Y : Type 0} (R : List Symbol → ReadResult X) (G : X → List Symbol → ReadResult Y) (ts : List Symbol) → Steady 1 R ts → ((a : X) (r : List Symbol) → Steady 0 (G a) r) → Steady 1 (λ us. and_then (R us) G) ts
 first_and R G ts h c = steady_all 1 (λ us. R us >>= (λ a. G a.value a.rest)) (λ us. and_then (R us) G) ts (λ us. and_is (R us) G) (first R (λ a. G a.value a.rest) ts h (λ a. c a.value a.rest))
 
 -- the value is changed alone
-pub mapped : {X Y : Type 0} (k : ℕ) (R : List Symbol → Outcome X) (F : Outcome X → Outcome Y) (g : X → Y) (ts : List Symbol) → ((x : X) (r : List Symbol) → F (read x r) ≡ read (g x) r) → ((e : Fault) → F (Err e) ≡ Err e) →
+pub mapped : {X Y : Type 0} (k : ℕ) (R : List Symbol → ReadResult X) (F : ReadResult X → ReadResult Y) (g : X → Y) (ts : List Symbol) → ((x : X) (r : List Symbol) → F (read x r) ≡ read (g x) r) → ((e : Fault) → F (Err e) ≡ Err e) →
     Steady k R ts → Steady k (λ us. F (R us)) ts
 mapped {X} {Y} k R F g ts values faulty h = by (R ts) h
   where
-    by : (o : Outcome X) → SteadyBy k R ts o → SteadyBy k (λ us. F (R us)) ts (F o)
+    by : (o : ReadResult X) → SteadyBy k R ts o → SteadyBy k (λ us. F (R us)) ts (F o)
     by (Ok a) w = subst (SteadyBy k (λ us. F (R us)) ts) (sym (values a.value a.rest)) (goes_as k k R (λ us. F (R us)) [] ts ts a (g a.value) refl (omega arith) (λ m s r q. ap F q ∙ values a.value r) w)
     by (Err f) w = subst (SteadyBy k (λ us. F (R us)) ts) (sym (faulty f)) (stop_as R (λ us. F (R us)) [] ts ts f refl (λ m s e q. ap F q ∙ faulty e) w)
 
 -- ---- a word or mark that is looked for
 
 -- what follows the first symbol is read
-abbrev pub tail : {X : Type 0} → (List Symbol → Outcome X) → List Symbol → Outcome X
+abbrev pub tail : {X : Type 0} → (List Symbol → ReadResult X) → List Symbol → ReadResult X
 tail Q [] = Err faults.Memory
 tail Q (u ∷ us) = Q us
 
-pub steady_tail : {X : Type 0} (Q : List Symbol → Outcome X) (t : Symbol) (r : List Symbol) → Steady 0 Q r → Steady 1 (tail Q) (t ∷ r)
+pub steady_tail : {X : Type 0} (Q : List Symbol → ReadResult X) (t : Symbol) (r : List Symbol) → Steady 0 Q r → Steady 1 (tail Q) (t ∷ r)
 steady_tail Q t r h = by_tail Q (tail Q) t r (λ us. refl) h
 
-pub by_seen : {X : Type 0} (k : ℕ) (w : Fixed) (F : List Symbol → Option (Read Span) → Outcome X) (ts : List Symbol) → Steady k (λ us. F us None) ts →
+pub by_seen : {X : Type 0} (k : ℕ) (w : Fixed) (F : List Symbol → Option (Read Span) → ReadResult X) (ts : List Symbol) → Steady k (λ us. F us None) ts →
     ((t : Symbol) (r : List Symbol) → ts ≡ t ∷ r → Steady k (tail (λ us. F (t ∷ us) (Some (record { value = t.span; rest = us })))) (t ∷ r)) → Steady k (λ us. F us (seen w us)) ts
 unfolding seen
 by_seen k w F [] none some = steady_as k (λ us. F us None) (λ us. F us (seen w us)) [] (λ m s. absurd s) refl none
 by_seen {X} k w F (t ∷ r) none some = by (says w t.sign) refl
   where
-    S : List Symbol → Outcome X
+    S : List Symbol → ReadResult X
     S us = F us (seen w us)
 
     by : (b : Bool) → says w t.sign ≡ b → Steady k S (t ∷ r)
     by true e = by_head k (tail (λ us. F (t ∷ us) (Some (record { value = t.span; rest = us })))) S t r (λ us. ap (λ b. F (t ∷ us) (if b then Some (record { value = t.span; rest = us }) else None)) e) (some t r refl)
     by false e = by_head k (λ us. F us None) S t r (λ us. ap (λ b. F (t ∷ us) (if b then Some (record { value = t.span; rest = us }) else None)) e) none
 
-pub seen_first : {X : Type 0} (w : Fixed) (F : List Symbol → Option (Read Span) → Outcome X) (ts : List Symbol) → Steady 1 (λ us. F us None) ts →
+pub seen_first : {X : Type 0} (w : Fixed) (F : List Symbol → Option (Read Span) → ReadResult X) (ts : List Symbol) → Steady 1 (λ us. F us None) ts →
     ((t : Symbol) (r : List Symbol) → ts ≡ t ∷ r → Steady 0 (λ us. F (t ∷ us) (Some (record { value = t.span; rest = us }))) r) → Steady 1 (λ us. F us (seen w us)) ts
 seen_first w F ts none some = by_seen 1 w F ts none (λ t r e. by_tail (λ us. F (t ∷ us) (Some (record { value = t.span; rest = us }))) (tail (λ us. F (t ∷ us) (Some (record { value = t.span; rest = us })))) t r (λ us. refl) (some t r e))
 
-pub seen_next : {X : Type 0} (w : Fixed) (F : List Symbol → Option (Read Span) → Outcome X) (ts : List Symbol) → Steady 0 (λ us. F us None) ts →
+pub seen_next : {X : Type 0} (w : Fixed) (F : List Symbol → Option (Read Span) → ReadResult X) (ts : List Symbol) → Steady 0 (λ us. F us None) ts →
     ((t : Symbol) (r : List Symbol) → ts ≡ t ∷ r → Steady 0 (λ us. F (t ∷ us) (Some (record { value = t.span; rest = us }))) r) → Steady 0 (λ us. F us (seen w us)) ts
 seen_next w F ts none some = by_seen 0 w F ts none (λ t r e. weaker (tail (λ us. F (t ∷ us) (Some (record { value = t.span; rest = us })))) (t ∷ r) (by_tail (λ us. F (t ∷ us) (Some (record { value = t.span; rest = us }))) (tail (λ us. F (t ∷ us) (Some (record { value = t.span; rest = us })))) t r (λ us. refl) (some t r e)))
 
@@ -220,13 +220,13 @@ seen_shorter w (t ∷ us) = cond_both (says w t.sign) (Some (record { value = t.
 
 -- ---- what may stand there
 
-pub there_as : {X : Type 0} (R : List Symbol → Outcome X) (S : List Symbol → Possible X) (t : Symbol) (r : List Symbol) → ((us : List Symbol) → S (t ∷ us) ≡ there (R (t ∷ us))) → Steady 1 R (t ∷ r) → Maybe S (t ∷ r)
+pub there_as : {X : Type 0} (R : List Symbol → ReadResult X) (S : List Symbol → Possible X) (t : Symbol) (r : List Symbol) → ((us : List Symbol) → S (t ∷ us) ≡ there (R (t ∷ us))) → Steady 1 R (t ∷ r) → Maybe S (t ∷ r)
 there_as {X} R S t r eq h = subst (MaybeBy S (t ∷ r)) (sym (eq r)) (by (R (t ∷ r)) h)
   where
     on : (m : List Symbol) → SameHead (t ∷ r) m → S m ≡ there (R m)
     on m s = on_head (λ m. S m ≡ there (R m)) t eq r m s
 
-    by : (o : Outcome X) → SteadyBy 1 R (t ∷ r) o → MaybeBy S (t ∷ r) (there o)
+    by : (o : ReadResult X) → SteadyBy 1 R (t ∷ r) o → MaybeBy S (t ∷ r) (there o)
     by (Ok a) g =
         record {
           front = g.front;
@@ -236,7 +236,7 @@ there_as {X} R S t r eq h = subst (MaybeBy S (t ∷ r)) (sym (eq r)) (by (R (t �
         }
     by (Err f) w = stop_as R S [] (t ∷ r) (t ∷ r) f refl (λ m s e q. on m s ∙ ap there q) w
 
-pub there_behind : {X : Type 0} (Q : List Symbol → Outcome X) (S : List Symbol → Possible X) (t : Symbol) (r : List Symbol) → ((us : List Symbol) → S (t ∷ us) ≡ there (Q us)) → Steady 0 Q r → Maybe S (t ∷ r)
+pub there_behind : {X : Type 0} (Q : List Symbol → ReadResult X) (S : List Symbol → Possible X) (t : Symbol) (r : List Symbol) → ((us : List Symbol) → S (t ∷ us) ≡ there (Q us)) → Steady 0 Q r → Maybe S (t ∷ r)
 there_behind Q S t r eq h = there_as (tail Q) S t r eq (by_tail Q (tail Q) t r (λ us. refl) h)
 
 pub none_there : {X : Type 0} (S : List Symbol → Possible X) (t : Symbol) (r : List Symbol) → ((us : List Symbol) → S (t ∷ us) ≡ Ok None) → Maybe S (t ∷ r)
@@ -276,7 +276,7 @@ abbrev pub maybe_tail : {X : Type 0} → (List Symbol → Possible X) → List S
 maybe_tail Q [] = Ok None
 maybe_tail Q (u ∷ us) = Q us
 
-pub maybe_seen : {X : Type 0} (w : Fixed) (F : List Symbol → Option (Read Span) → Possible X) (Q : Symbol → List Symbol → Outcome X) (ts : List Symbol) →
+pub maybe_seen : {X : Type 0} (w : Fixed) (F : List Symbol → Option (Read Span) → Possible X) (Q : Symbol → List Symbol → ReadResult X) (ts : List Symbol) →
     ((t : Symbol) (us : List Symbol) → F (t ∷ us) (Some (record { value = t.span; rest = us })) ≡ there (Q t us)) → Maybe (λ us. F us None) ts → ((t : Symbol) (r : List Symbol) → Steady 0 (Q t) r) → Maybe (λ us. F us (seen w us)) ts
 unfolding seen
 maybe_seen w F Q [] eq none some = maybe_none (λ us. F us None) (λ us. F us (seen w us)) refl none
@@ -299,8 +299,8 @@ one_maybe {X} R ts h = by (R ts) h
 
 -- ---- lists
 
-module _ {X : Type 0} (f : ℕ → List Symbol → Outcome (List X)) (end : Span) (items : (n : ℕ) (us : List Symbol) → Steady 1 (f n) us) (none : (n : ℕ) → f n [] ≡ refused end []) where
-  more_same : (A B : List Symbol → Outcome (List X)) (xs : List X) (ts : List Symbol) (o : Option (Read Span)) → IfSome o (λ x. A x.rest ≡ B x.rest) → more_by A xs ts o ≡ more_by B xs ts o
+module _ {X : Type 0} (f : ℕ → List Symbol → ReadResult (List X)) (end : Span) (items : (n : ℕ) (us : List Symbol) → Steady 1 (f n) us) (none : (n : ℕ) → f n [] ≡ refused end []) where
+  more_same : (A B : List Symbol → ReadResult (List X)) (xs : List X) (ts : List Symbol) (o : Option (Read Span)) → IfSome o (λ x. A x.rest ≡ B x.rest) → more_by A xs ts o ≡ more_by B xs ts o
   more_same A B xs ts None h = refl
   more_same A B xs ts (Some comma) h = ap (with_front xs) h
 
@@ -321,15 +321,15 @@ module _ {X : Type 0} (f : ℕ → List Symbol → Outcome (List X)) (end : Span
           let long : length us ≡ length g.front + length xs.rest = ap length g.parts ∙ length-append g.front xs.rest in
           again (n - length xs.value) x.rest (omega (arith, h, long, low)) (omega (arith, h, long, high))
 
-      by : ((m : ℕ) (vs : List Symbol) → length vs ≤ k → length vs ≤ j → separated f end m k vs ≡ separated f end m j vs) → (o : Outcome (List X)) → SteadyBy 1 (f n) us o →
+      by : ((m : ℕ) (vs : List Symbol) → length vs ≤ k → length vs ≤ j → separated f end m k vs ≡ separated f end m j vs) → (o : ReadResult (List X)) → SteadyBy 1 (f n) us o →
           (o >>= (λ xs. more_by (separated f end (n - length xs.value) k) xs.value xs.rest (seen fixed.Comma xs.rest))) ≡ (o >>= (λ xs. more_by (separated f end (n - length xs.value) j) xs.value xs.rest (seen fixed.Comma xs.rest)))
       by again (Ok xs) g = more_same (separated f end (n - length xs.value) k) (separated f end (n - length xs.value) j) xs.value xs.rest (seen fixed.Comma xs.rest) (short again xs g (seen fixed.Comma xs.rest) (seen_shorter fixed.Comma xs.rest))
       by again (Err e) w = refl
 
-  abbrev pub list_of : ℕ → List Symbol → Outcome (List X)
+  abbrev pub list_of : ℕ → List Symbol → ReadResult (List X)
   list_of n us = separated f end n (length us) us
 
-  abbrev pub turn_of : ℕ → List Symbol → Outcome (List X)
+  abbrev pub turn_of : ℕ → List Symbol → ReadResult (List X)
   turn_of n us = f n us >>= (λ xs. more_by (list_of (n - length xs.value)) xs.value xs.rest (seen fixed.Comma xs.rest))
 
   pub unrolled : (n : ℕ) (us : List Symbol) → list_of n us ≡ turn_of n us
@@ -344,7 +344,7 @@ module _ {X : Type 0} (f : ℕ → List Symbol → Outcome (List X)) (end : Span
           let long : length (t ∷ us) ≡ length g.front + length xs.rest = ap length g.parts ∙ length-append g.front xs.rest in
           turns_enough (length us) (length x.rest) (n - length xs.value) x.rest (omega (arith, h, long)) (omega arith)
 
-      by : (o : Outcome (List X)) → SteadyBy 1 (f n) (t ∷ us) o →
+      by : (o : ReadResult (List X)) → SteadyBy 1 (f n) (t ∷ us) o →
           (o >>= (λ xs. more_by (separated f end (n - length xs.value) (length us)) xs.value xs.rest (seen fixed.Comma xs.rest))) ≡ (o >>= (λ xs. more_by (list_of (n - length xs.value)) xs.value xs.rest (seen fixed.Comma xs.rest)))
       by (Ok xs) g = more_same (separated f end (n - length xs.value) (length us)) (list_of (n - length xs.value)) xs.value xs.rest (seen fixed.Comma xs.rest) (short xs g (seen fixed.Comma xs.rest) (seen_shorter fixed.Comma xs.rest))
       by (Err e) w = refl
@@ -389,10 +389,10 @@ module _ {X : Type 0} (f : ℕ → List Symbol → Possible (List X)) (used : Li
           ap (with_front a.value) (again (n - used a.value) a.rest (omega (arith, g.taken, long, low)) (omega (arith, g.taken, long, high)))
       by again (Err e) w = refl
 
-  abbrev items_of : ℕ → List Symbol → Outcome (List X)
+  abbrev items_of : ℕ → List Symbol → ReadResult (List X)
   items_of n us = repeated f used n (length us) us
 
-  abbrev item_of : ℕ → List Symbol → Possible (List X) → Outcome (List X)
+  abbrev item_of : ℕ → List Symbol → Possible (List X) → ReadResult (List X)
   item_of n us o = repeated_by (λ xs vs. items_of (n - used xs) vs) us o
 
   unrepeated : (n : ℕ) (us : List Symbol) → items_of n us ≡ item_of n us (f n us)
@@ -413,10 +413,10 @@ module _ {X : Type 0} (f : ℕ → List Symbol → Possible (List X)) (used : Li
   items_by zero n (t ∷ ts) low = absurd (omega (arith, low))
   items_by (suc k) n ts low = steady_all 0 (λ us. item_of n us (f n us)) (items_of n) ts (unrepeated n) (by (λ m vs x. items_by k m vs x) (f n ts) (items n ts))
     where
-      S : List Symbol → Outcome (List X)
+      S : List Symbol → ReadResult (List X)
       S us = item_of n us (f n us)
 
-      behind_it : (a : Read (List X)) → Stands (List X) (f n) ts a → (o : Outcome (List X)) → SteadyBy 0 (items_of (n - used a.value)) a.rest o → SteadyBy 0 S ts (with_front a.value o)
+      behind_it : (a : Read (List X)) → Stands (List X) (f n) ts a → (o : ReadResult (List X)) → SteadyBy 0 (items_of (n - used a.value)) a.rest o → SteadyBy 0 S ts (with_front a.value o)
       behind_it a g (Ok b) w =
           goes_as 0 0 (items_of (n - used a.value)) S g.front ts a.rest b (a.value ++ b.value) g.parts (omega arith)
           (λ m s r e. ap (item_of n (g.front ++ m)) (g.again m s) ∙ ap (with_front a.value) e) w

@@ -12,7 +12,7 @@ use Rattle.boogie_parse.specs.declared.fault.Which.{Which}
 use Rattle.boogie_parse.specs.declared.fault.Which.TheVariants as limits
 use Rattle.boogie_parse.specs.declared.lexer.token.Token.{Token}
 use Rattle.boogie_parse.specs.declared.symbols.Symbol.{Symbol}
-use Rattle.boogie_parse.specs.Reading.Outcomes.{Outcome}
+use Rattle.boogie_parse.specs.Reading.Outcomes.{ReadResult}
 use Rattle.boogie_parse.specs.Lexing.Lexed.{lexed}
 use Rattle.boogie_parse.specs.Lexing.Symbols.{symbol}
 use Rattle.boogie_parse.specs.Rules.Grammar.{Reads, one, more, unimplied, implied, conjoined, disjoined, uncompared, compared, unsigned, negated, denied, number, true_word, false_word, name, old_value, grouped}
@@ -52,10 +52,10 @@ depth_below (name t is) = omega arith
 depth_below (old_value t u v it iu d iv) = let x = depth_below d in omega arith
 depth_below (grouped u v iu d iv) = let x = depth_below d in omega arith
 
-abbrev any_depth : Span → ℕ → List Symbol → Outcome Expression
+abbrev any_depth : Span → ℕ → List Symbol → ReadResult Expression
 any_depth end p ts = expression end p (length ts) ts
 
-abbrev more_depth : Span → ℕ → List Symbol → Outcome Expression
+abbrev more_depth : Span → ℕ → List Symbol → ReadResult Expression
 more_depth end p ts = expression end p (200 + length ts) ts
 
 abbrev Every : Expression → Type 0

@@ -5,7 +5,7 @@ use Rattle.std.specs.Str.Parse.{digits_value}
 use Rattle.std.proofs.lemmas.Bool.{and_parts, cond_both}
 use Rattle.boogie_tree.specs.Names.{is_digit, is_name_byte}
 use Rattle.boogie_parse.specs.Lexing.Bytes.{is_blank}
-use Rattle.boogie_parse.specs.Lexing.Tokens.{run, marks, makes_real}
+use Rattle.boogie_parse.specs.Lexing.Tokens.{passing_length, marks, makes_real}
 use Rattle.boogie_parse.specs.Lexing.Pieces.{Front, longer, opens_comment, closes_comment, comment_length, string_length, is_in_line, literal_front, comment_front, string_front, mark_front, front}
 use Rattle.boogie_parse.specs.Ties.Turns.{length_of}
 use Rattle.boogie_parse.proofs.Lexing.TokenExtents.{run_within, run_fits, front_within}
@@ -41,18 +41,18 @@ string_within before (b ∷ r) =
     cond_both (nat_eq b 10) _ _ P (λ _. tt)
     (λ _. cond_both _ (Some 1) (longer 1 (string_length b r)) P (λ _. omega arith) (λ _. longer_within 1 (length r) _ (string_length b r) (omega arith) (string_within b r)))
 
-literal_fits : (b : ℕ) (r : List ℕ) → is_digit b ≡ true → Fits (b ∷ r) (literal_front (run is_digit (b ∷ r)) (b ∷ r))
+literal_fits : (b : ℕ) (r : List ℕ) → is_digit b ≡ true → Fits (b ∷ r) (literal_front (passing_length is_digit (b ∷ r)) (b ∷ r))
 literal_fits b r digit =
     let P : Front → Type 0 = Fits (b ∷ r) in
-    let fits : (0 < run is_digit (b ∷ r)) × (run is_digit (b ∷ r) ≤ length (b ∷ r)) = run_fits is_digit b r digit in
-    cond_both (nat_lt (digits_value 10 (take (run is_digit (b ∷ r)) (b ∷ r))) (2 ^ 127)) _ _ P
-    (λ _. cond_both (makes_real (drop (run is_digit (b ∷ r)) (b ∷ r))) _ _ P (λ _. fits) (λ _. fits))
+    let fits : (0 < passing_length is_digit (b ∷ r)) × (passing_length is_digit (b ∷ r) ≤ length (b ∷ r)) = run_fits is_digit b r digit in
+    cond_both (nat_lt (digits_value 10 (take (passing_length is_digit (b ∷ r)) (b ∷ r))) (2 ^ 127)) _ _ P
+    (λ _. cond_both (makes_real (drop (passing_length is_digit (b ∷ r)) (b ∷ r))) _ _ P (λ _. fits) (λ _. fits))
     (λ _. fits)
 
-string_fits : (b : ℕ) (r : List ℕ) → Fits (b ∷ r) (string_front (run is_in_line r) (string_length 34 r))
+string_fits : (b : ℕ) (r : List ℕ) → Fits (b ∷ r) (string_front (passing_length is_in_line r) (string_length 34 r))
 string_fits b r = by_length b r (string_length 34 r) (string_within 34 r)
   where
-    by_length : (b : ℕ) (r : List ℕ) (o : Option ℕ) → IfSome o (λ n. n ≤ length r) → Fits (b ∷ r) (string_front (run is_in_line r) o)
+    by_length : (b : ℕ) (r : List ℕ) (o : Option ℕ) → IfSome o (λ n. n ≤ length r) → Fits (b ∷ r) (string_front (passing_length is_in_line r) o)
     by_length b r None h = let short = run_within is_in_line r in (omega arith, omega arith)
     by_length b r (Some n) h = (omega arith, omega arith)
 

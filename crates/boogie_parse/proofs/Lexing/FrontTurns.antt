@@ -7,7 +7,7 @@ use Rattle.boogie_tree.specs.Names.{is_digit, is_name_byte}
 use Rattle.boogie_parse.specs.declared.token.TokenKind.{TokenKind}
 use Rattle.boogie_parse.specs.declared.token.TokenKind.TheVariants as kinds
 use Rattle.boogie_parse.specs.Lexing.Bytes.{is_blank}
-use Rattle.boogie_parse.specs.Lexing.Tokens.{run, marks, mark_of, mark_at}
+use Rattle.boogie_parse.specs.Lexing.Tokens.{passing_length, marks, mark_of, mark_at}
 use Rattle.boogie_parse.specs.Lexing.Pieces.{Front, Skipped, Found, Lexeme, Stray, is_in_line, comment_length, string_length, literal_front, comment_front, string_front, mark_front, front}
 use Rattle.boogie_parse.specs.Ties.Turns.{front_of, first_mark}
 
@@ -50,20 +50,20 @@ blank_first text b r e blank = at_first text b r (Skipped 1) e (sym (front_is b 
     front_is b r blank = taken (is_blank b) _ _ blank
 
 pub digit_first : (text : List ℕ) (b : ℕ) (r : List ℕ) (f : Front) → text ≡ b ∷ r → is_blank b ≡ false → is_digit b ≡ true →
-    f ≡ literal_front (run is_digit text) text → Some f ≡ front_of text
+    f ≡ literal_front (passing_length is_digit text) text → Some f ≡ front_of text
 unfolding front
-digit_first text b r f e blank digit is = at_first text b r f e (is ∙ ap (λ t. literal_front (run is_digit t) t) e ∙ sym (front_is b r blank digit))
+digit_first text b r f e blank digit is = at_first text b r f e (is ∙ ap (λ t. literal_front (passing_length is_digit t) t) e ∙ sym (front_is b r blank digit))
   where
-    front_is : (b : ℕ) (r : List ℕ) → is_blank b ≡ false → is_digit b ≡ true → front b r ≡ literal_front (run is_digit (b ∷ r)) (b ∷ r)
+    front_is : (b : ℕ) (r : List ℕ) → is_blank b ≡ false → is_digit b ≡ true → front b r ≡ literal_front (passing_length is_digit (b ∷ r)) (b ∷ r)
     front_is b r blank digit = passed (is_blank b) _ _ blank ∙ taken (is_digit b) _ _ digit
 
 pub name_first : (text : List ℕ) (b : ℕ) (r : List ℕ) (n : ℕ) → text ≡ b ∷ r → is_blank b ≡ false → is_digit b ≡ false → is_name_byte b ≡ true →
-    n ≡ run is_name_byte text → Some (Found (Lexeme kinds.Word) n) ≡ front_of text
+    n ≡ passing_length is_name_byte text → Some (Found (Lexeme kinds.Word) n) ≡ front_of text
 unfolding front
 name_first text b r n e blank digit name is =
-    at_first text b r (Found (Lexeme kinds.Word) n) e (ap (λ k. Found (Lexeme kinds.Word) k) (is ∙ ap (run is_name_byte) e) ∙ sym (front_is b r blank digit name))
+    at_first text b r (Found (Lexeme kinds.Word) n) e (ap (λ k. Found (Lexeme kinds.Word) k) (is ∙ ap (passing_length is_name_byte) e) ∙ sym (front_is b r blank digit name))
   where
-    front_is : (b : ℕ) (r : List ℕ) → is_blank b ≡ false → is_digit b ≡ false → is_name_byte b ≡ true → front b r ≡ Found (Lexeme kinds.Word) (run is_name_byte (b ∷ r))
+    front_is : (b : ℕ) (r : List ℕ) → is_blank b ≡ false → is_digit b ≡ false → is_name_byte b ≡ true → front b r ≡ Found (Lexeme kinds.Word) (passing_length is_name_byte (b ∷ r))
     front_is b r blank digit name = passed (is_blank b) _ _ blank ∙ passed (is_digit b) _ _ digit ∙ taken (is_name_byte b) _ _ name
 
 -- the first byte is no blank and no byte of a name
@@ -73,15 +73,15 @@ pub record IsOther (b : ℕ) : Type 0 where
   pub name : is_name_byte b ≡ false
 
 others : (b : ℕ) (r : List ℕ) → IsOther b → front b r
-    ≡ (if nat_eq b 34 then string_front (run is_in_line r) (string_length 34 r)
-    else (if starts_with nat_eq (b ∷ r) (codes "//") then Skipped (run is_in_line (b ∷ r))
+    ≡ (if nat_eq b 34 then string_front (passing_length is_in_line r) (string_length 34 r)
+    else (if starts_with nat_eq (b ∷ r) (codes "//") then Skipped (passing_length is_in_line (b ∷ r))
     else (if starts_with nat_eq (b ∷ r) (codes "/*") then comment_front (length (b ∷ r)) (comment_length 0 (drop 1 r))
     else mark_front (find (λ m. starts_with nat_eq (b ∷ r) m) marks))))
 unfolding front
 others b r h = passed (is_blank b) _ _ h.blank ∙ passed (is_digit b) _ _ h.digit ∙ passed (is_name_byte b) _ _ h.name
 
 pub quote_first : (text : List ℕ) (b : ℕ) (r : List ℕ) (f : Front) → text ≡ b ∷ r → IsOther b → b ≡ 34 →
-    f ≡ string_front (run is_in_line r) (string_length 34 r) → Some f ≡ front_of text
+    f ≡ string_front (passing_length is_in_line r) (string_length 34 r) → Some f ≡ front_of text
 quote_first text b r f e other quote is =
     let test : nat_eq b 34 ≡ true = grind (arith, nat_tests) in
     at_first text b r f e (is ∙ sym (others b r other ∙ taken (nat_eq b 34) _ _ test))
@@ -90,11 +90,11 @@ no_quote : (b : ℕ) → (b ≡ 34 → ⊥) → nat_eq b 34 ≡ false
 no_quote b h = grind (arith, nat_tests)
 
 pub line_comment_first : (text : List ℕ) (b : ℕ) (r : List ℕ) (n : ℕ) → text ≡ b ∷ r → IsOther b → (b ≡ 34 → ⊥) →
-    starts_with nat_eq text (codes "//") ≡ true → n ≡ run is_in_line text → Some (Skipped n) ≡ front_of text
+    starts_with nat_eq text (codes "//") ≡ true → n ≡ passing_length is_in_line text → Some (Skipped n) ≡ front_of text
 line_comment_first text b r n e other quote line is =
     let begins : starts_with nat_eq (b ∷ r) (codes "//") ≡ true = subst (λ t. starts_with nat_eq t (codes "//") ≡ true) e line in
     at_first text b r (Skipped n) e
-    (ap (λ k. Skipped k) (is ∙ ap (run is_in_line) e) ∙ sym (others b r other ∙ passed (nat_eq b 34) _ _ (no_quote b quote) ∙ taken (starts_with nat_eq (b ∷ r) (codes "//")) _ _ begins))
+    (ap (λ k. Skipped k) (is ∙ ap (passing_length is_in_line) e) ∙ sym (others b r other ∙ passed (nat_eq b 34) _ _ (no_quote b quote) ∙ taken (starts_with nat_eq (b ∷ r) (codes "//")) _ _ begins))
 
 pub comment_first : (text : List ℕ) (b : ℕ) (r : List ℕ) (f : Front) → text ≡ b ∷ r → IsOther b → (b ≡ 34 → ⊥) →
     starts_with nat_eq text (codes "//") ≡ false → starts_with nat_eq text (codes "/*") ≡ true →

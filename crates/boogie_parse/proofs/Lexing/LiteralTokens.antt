@@ -11,11 +11,11 @@ use Rattle.boogie_parse.specs.declared.lexer.token.Token.{Token}
 use Rattle.boogie_parse.specs.Lexing.Bytes.{is_blank}
 use Rattle.boogie_tree.specs.Names.{is_digit, is_name_byte}
 use Rattle.boogie_tree.specs.Places.{beginning}
-use Rattle.boogie_parse.specs.Lexing.Tokens.{run, marks, makes_real}
+use Rattle.boogie_parse.specs.Lexing.Tokens.{passing_length, marks, makes_real}
 use Rattle.boogie_parse.specs.Lexing.Places.{behind_byte}
 use Rattle.boogie_parse.specs.Lexing.Pieces.{Shape, Lexeme, Quoted, RealLiteral, LargeLiteral, Stray, Front, Skipped, Found, is_in_line, comment_length, string_length, literal_front, comment_front, string_front, mark_front, front, Piece, more_bytes, with_piece, pieces_from, pieces}
 use Rattle.boogie_parse.specs.Lexing.Attributes.{begins_attribute, braced_length}
-use Rattle.boogie_parse.specs.Lexing.Lexed.{left_out, beside, supported, judged, inside_attribute, attribute, found_in, with_token, tokens_or_fault, lexed}
+use Rattle.boogie_parse.specs.Lexing.Lexed.{left_out, beside_text, supported, judged, inside_attribute, attribute, found_in, with_token, tokens_or_fault, lexed}
 use Rattle.boogie_parse.specs.Lexing.Symbols.{fits_as, LiteralFits}
 
 -- ---- what a text begins with
@@ -56,9 +56,9 @@ unfolding front
 front_fits b r =
     let P : Front → Type 0 = FrontFits (b ∷ r) in
     cond_both (is_blank b) _ _ P (λ _. tt)
-    (λ _. cond_both (is_digit b) _ _ P (λ _. literal_fits (run is_digit (b ∷ r)) (b ∷ r))
+    (λ _. cond_both (is_digit b) _ _ P (λ _. literal_fits (passing_length is_digit (b ∷ r)) (b ∷ r))
     (λ _. cond_both (is_name_byte b) _ _ P (λ _. tt)
-    (λ _. cond_both (nat_eq b 34) _ _ P (λ _. string_fits (run is_in_line r) (b ∷ r) (string_length 34 r))
+    (λ _. cond_both (nat_eq b 34) _ _ P (λ _. string_fits (passing_length is_in_line r) (b ∷ r) (string_length 34 r))
     (λ _. cond_both (starts_with nat_eq (b ∷ r) (codes "//")) _ _ P (λ _. tt)
     (λ _. cond_both (starts_with nat_eq (b ∷ r) (codes "/*")) _ _ P (λ _. comment_fits (length (b ∷ r)) (b ∷ r) (comment_length 0 (drop 1 r)))
     (λ _. mark_fits (b ∷ r) (find (λ m. starts_with nat_eq (b ∷ r) m) marks)))))))
@@ -90,7 +90,7 @@ supported_fits here kind text None fits = fits
 supported_fits here kind text (Some what) fits = tt
 
 judged_fits : (here : Span) (text : List ℕ) (shape : Shape) → ShapeFits shape text → TokenFits (judged here text shape)
-judged_fits here text (Lexeme kind) fits = supported_fits here kind text (beside text left_out) fits
+judged_fits here text (Lexeme kind) fits = supported_fits here kind text (beside_text text left_out) fits
 judged_fits here text Quoted fits = tt
 judged_fits here text RealLiteral fits = tt
 judged_fits here text LargeLiteral fits = tt

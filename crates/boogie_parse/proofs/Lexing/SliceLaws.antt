@@ -11,7 +11,7 @@ use Rattle.boogie_parse.specs.declared.lexer.token.Token.{Token}
 use Rattle.boogie_parse.specs.Lexing.Places.{behind_byte, behind}
 use Rattle.boogie_parse.specs.Lexing.Pieces.{Shape, Lexeme, Quoted, RealLiteral, LargeLiteral, Stray, Front, Skipped, Found, front, Piece, more_bytes, with_piece, pieces_from, pieces}
 use Rattle.boogie_parse.specs.Lexing.Attributes.{begins_attribute, braced_length}
-use Rattle.boogie_parse.specs.Lexing.Lexed.{left_out, beside, supported, judged, inside_attribute, attribute, found_in, with_token, tokens_or_fault, lexed}
+use Rattle.boogie_parse.specs.Lexing.Lexed.{left_out, beside_text, supported, judged, inside_attribute, attribute, found_in, with_token, tokens_or_fault, lexed}
 use Rattle.boogie_parse.specs.Lexing.Slices.{IsSlice, AreSlices}
 use Rattle.boogie_parse.specs.Ties.Turns.{length_of}
 use Rattle.boogie_parse.proofs.Lexing.FrontLaws.{Fits, front_fits}
@@ -105,7 +105,7 @@ supported_piece here kind text None t is = let same : record { span = here; kind
 supported_piece here kind text (Some what) t is = cc
 
 judged_piece : (here : Span) (text : List ℕ) (shape : Shape) (t : Token) → judged here text shape ≡ Ok t → (t.span ≡ here) × (t.text ≡ text)
-judged_piece here text (Lexeme kind) t is = supported_piece here kind text (beside text left_out) t is
+judged_piece here text (Lexeme kind) t is = supported_piece here kind text (beside_text text left_out) t is
 judged_piece here text Quoted t is = (cc, cc)
 judged_piece here text RealLiteral t is = (cc, cc)
 judged_piece here text LargeLiteral t is = (cc, cc)

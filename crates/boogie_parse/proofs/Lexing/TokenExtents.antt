@@ -2,15 +2,15 @@
 use Rattle.std.proofs.Common.{◌≡◌, ℕ, suc, ◌<◌, ◌≤◌, Bool, true, nat_eq, List, [], ◌∷◌, length, arith}
 use Rattle.std.specs.List.{starts_with}
 use Rattle.std.proofs.lemmas.Bool.{and_parts, cond_both}
-use Rattle.boogie_parse.specs.Lexing.Tokens.{run}
+use Rattle.boogie_parse.specs.Lexing.Tokens.{passing_length}
 
-pub run_within : (p : ℕ → Bool) (bs : List ℕ) → run p bs ≤ length bs
+pub run_within : (p : ℕ → Bool) (bs : List ℕ) → passing_length p bs ≤ length bs
 run_within p [] = omega arith
 run_within p (b ∷ bs) =
     let short = run_within p bs in
-    cond_both (p b) (suc (run p bs)) 0 (λ n. n ≤ suc (length bs)) (λ _. omega arith) (λ _. omega arith)
+    cond_both (p b) (suc (passing_length p bs)) 0 (λ n. n ≤ suc (length bs)) (λ _. omega arith) (λ _. omega arith)
 
-pub run_fits : (p : ℕ → Bool) (b : ℕ) (bs : List ℕ) → p b ≡ true → (0 < run p (b ∷ bs)) × (run p (b ∷ bs) ≤ length (b ∷ bs))
+pub run_fits : (p : ℕ → Bool) (b : ℕ) (bs : List ℕ) → p b ≡ true → (0 < passing_length p (b ∷ bs)) × (passing_length p (b ∷ bs) ≤ length (b ∷ bs))
 run_fits p b bs passes =
     let short = run_within p bs in
     rw passes (omega arith, omega arith)

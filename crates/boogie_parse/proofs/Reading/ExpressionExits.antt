@@ -13,26 +13,26 @@ use Rattle.boogie_parse.specs.declared.grammar.found.Found.{Found}
 use Rattle.boogie_parse.specs.declared.grammar.expressions.operators.Chain.{Chain}
 use Rattle.boogie_parse.specs.declared.grammar.expressions.operators.Chain.TheVariants as chains
 use Rattle.boogie_parse.specs.Rules.GrammarLimits.{depth}
-use Rattle.boogie_parse.specs.Reading.Outcomes.{Outcome, place_or, syntax_fault, limit_fault, and_then}
+use Rattle.boogie_parse.specs.Reading.Outcomes.{ReadResult, place_or, syntax_fault, limit_fault, and_then}
 use Rattle.boogie_parse.specs.Ties.ExpressionViews.{Gives}
-use Rattle.boogie_parse.specs.Reading.ExpressionReading.{Reader, done, unless_deep, Infix, infix_at, followed, operation, level_of_chain, chain, opens, closes, after, prefix_at, primary, unary, product, sum, comparison, junction_by, implication, equivalence, old_value, inside}
+use Rattle.boogie_parse.specs.Reading.ExpressionReading.{Reader, done, unless_deep, Infix, infix_at, unless_alone, binary_operation, level_of_chain, chain_behind, opens, closes, behind_sign, prefix_at, primary, unary, factor_chain, sum, comparison, junction_by, implication, equivalence, old_value, inside}
 use Rattle.boogie_parse.proofs.Reading.ExpressionSteps.{unary_step, implication_step, inside_step, chain_stops}
 
 -- what was read is no fault
-pub never_fails : (a : Expression) (r : List Symbol) (f : Fault) (whole : Outcome Expression) → done a r ≡ Err f → whole ≡ Err f
+pub never_fails : (a : Expression) (r : List Symbol) (f : Fault) (whole : ReadResult Expression) → done a r ≡ Err f → whole ≡ Err f
 never_fails a r f whole h = absurd (let no : ⊥ = cc in no)
 
 -- a loop over a chain ends where no operator follows
-pub turn_stops : (c : Chain) (operand : Reader) (here : Span) (d k : ℕ) (a : Expression) (r : List Symbol) (whole : Outcome Expression) (l : Level)
-    → chain c operand here d k a r ≡ whole → l ≡ level_of_chain c → None ≡ infix_at l r → whole ≡ done a r
+pub turn_stops : (c : Chain) (operand : Reader) (here : Span) (d k : ℕ) (a : Expression) (r : List Symbol) (whole : ReadResult Expression) (l : Level)
+    → chain_behind c operand here d k a r ≡ whole → l ≡ level_of_chain c → None ≡ infix_at l r → whole ≡ done a r
 turn_stops c operand here d k a r whole l now level none =
     sym now ∙ chain_stops c operand here d k a r (sym (none ∙ ap (λ m. infix_at m r) level))
 
 -- a first operand, and at most one operation on it
-abbrev pub joined : Outcome Expression → Level → (List Symbol → Outcome Expression) → Span → ℕ → Outcome Expression
-joined first level next here d = and_then first (λ a r. followed a r (λ o at m. unless_deep (nat_le d (depth a)) at (operation here o a (next m))) (infix_at level r))
+abbrev pub joined : ReadResult Expression → Level → (List Symbol → ReadResult Expression) → Span → ℕ → ReadResult Expression
+joined first level next here d = and_then first (λ a r. unless_alone a r (λ o at m. unless_deep (nat_le d (depth a)) at (binary_operation here o a (next m))) (infix_at level r))
 
-module _ (first : Outcome Expression) (level : Level) (next : List Symbol → Outcome Expression) (here : Span) (d : ℕ) where
+module _ (first : ReadResult Expression) (level : Level) (next : List Symbol → ReadResult Expression) (here : Span) (d : ℕ) where
   pub first_fails : (f : Fault) → first ≡ Err f → joined first level next here d ≡ Err f
   first_fails f h = rw h refl
 
@@ -66,20 +66,20 @@ module _ (first : Outcome Expression) (level : Level) (next : List Symbol → Ou
 -- A comparison and an operand of a chain of `<=>`, from the operand that stands first, level by level. `here` is their place.
 module _ (end : Span) (inner : Reader) (d : ℕ) (ts : List Symbol) (here : Span) (at : here ≡ place_or end ts) where
   -- what is behind the first operand of each level
-  abbrev pub products : Expression → List Symbol → Outcome Expression
-  products = chain chains.Product (unary end inner) here d d
+  abbrev pub products : Expression → List Symbol → ReadResult Expression
+  products = chain_behind chains.Product (unary end inner) here d d
 
-  abbrev pub sums : Expression → List Symbol → Outcome Expression
-  sums = chain chains.Sum (product end inner) here d d
+  abbrev pub sums : Expression → List Symbol → ReadResult Expression
+  sums = chain_behind chains.Sum (factor_chain end inner) here d d
 
-  abbrev pub compares : Expression → List Symbol → Outcome Expression
-  compares a r = followed a r (λ o m_at m. unless_deep (nat_le d (depth a)) m_at (operation here o a (sum end inner (d - 1) m))) (infix_at Comparison r)
+  abbrev pub compares : Expression → List Symbol → ReadResult Expression
+  compares a r = unless_alone a r (λ o m_at m. unless_deep (nat_le d (depth a)) m_at (binary_operation here o a (sum end inner (d - 1) m))) (infix_at Comparison r)
 
-  abbrev pub joins_on : Expression → List Symbol → Outcome Expression
-  joins_on a r = chain (junction_by (infix_at Disjunction r)) (comparison end inner) here d d a r
+  abbrev pub joins_on : Expression → List Symbol → ReadResult Expression
+  joins_on a r = chain_behind (junction_by (infix_at Disjunction r)) (comparison end inner) here d d a r
 
-  abbrev pub implies : Expression → List Symbol → Outcome Expression
-  implies a r = followed a r (λ o m_at m. unless_deep (nat_le d (depth a)) m_at (operation here o a (implication end inner (d - 1) m))) (infix_at Implication r)
+  abbrev pub implies : Expression → List Symbol → ReadResult Expression
+  implies a r = unless_alone a r (λ o m_at m. unless_deep (nat_le d (depth a)) m_at (binary_operation here o a (implication end inner (d - 1) m))) (infix_at Implication r)
 
   pub comparison_first_fails : (f : Fault) → unary end inner d ts ≡ Err f → comparison end inner d ts ≡ Err f
   unfolding comparison
@@ -92,12 +92,12 @@ module _ (end : Span) (inner : Reader) (d : ℕ) (ts : List Symbol) (here : Span
   pub comparison_sum_fails : (a : Expression) (r : List Symbol) (b : Expression) (s : List Symbol) (f : Fault)
       → unary end inner d ts ≡ done a r → products a r ≡ done b s → sums b s ≡ Err f → comparison end inner d ts ≡ Err f
   unfolding comparison
-  comparison_sum_fails a r b s f first product e = rw (first, ← at, product, e) refl
+  comparison_sum_fails a r b s f first factor_chain e = rw (first, ← at, factor_chain, e) refl
 
   pub comparison_goes : (a : Expression) (r : List Symbol) (b : Expression) (s : List Symbol) (g : Expression) (t : List Symbol)
       → unary end inner d ts ≡ done a r → products a r ≡ done b s → sums b s ≡ done g t → comparison end inner d ts ≡ compares g t
   unfolding comparison
-  comparison_goes a r b s g t first product sum = rw (first, ← at, product, sum) refl
+  comparison_goes a r b s g t first factor_chain sum = rw (first, ← at, factor_chain, sum) refl
 
   pub implication_comparison_fails : (f : Fault) → comparison end inner d ts ≡ Err f → implication end inner d ts ≡ Err f
   implication_comparison_fails f e = rw (implication_step end inner d ts, e) refl
@@ -115,7 +115,7 @@ module _ (end : Span) (inner : Reader) (d : ℕ) (ts : List Symbol) (here : Span
   equivalence_fails f e = rw e refl
 
   pub equivalence_goes : (a : Expression) (r : List Symbol) → implication end inner d ts ≡ done a r
-      → equivalence end inner d ts ≡ chain chains.Equivalence (implication end inner) here d d a r
+      → equivalence end inner d ts ≡ chain_behind chains.Equivalence (implication end inner) here d d a r
   equivalence_goes a r first = rw (first, ← at) refl
 
 -- `!` and unary `-`
@@ -124,7 +124,7 @@ module _ (end : Span) (inner : Reader) (d : ℕ) (ts : List Symbol) where
   unary_plain none = rw (unary_step end inner d ts, ← none) refl
 
 -- an operator before its operand
-module _ (d : ℕ) (at : Span) (x : Outcome Expression) where
+module _ (d : ℕ) (at : Span) (x : ReadResult Expression) where
   pub prefix_deep : (f : Fault) → d ≡ 0 → f ≡ limit_fault Nesting at → unless_deep (nat_eq d 0) at x ≡ Err f
   prefix_deep f none e = let test : nat_eq d 0 ≡ true = grind (arith, nat_tests) in rw (test, e) refl
 
@@ -148,19 +148,19 @@ module _ (inner : Reader) (here : Span) (d : ℕ) (ts : List Symbol) where
 
 -- an expression in parentheses
 module _ (end : Span) (p d : ℕ) (ts : List Symbol) where
-  pub unopened : (f : Fault) → None ≡ after opens ts → f ≡ syntax_fault (place_or end ts) → inside end p d ts ≡ Err f
+  pub unopened : (f : Fault) → None ≡ behind_sign opens ts → f ≡ syntax_fault (place_or end ts) → inside end p d ts ≡ Err f
   unopened f none e = rw (inside_step end p d ts, ← none, e) refl
 
-  pub too_many : (m : List Symbol) (here : Span) (f : Fault) → Some m ≡ after opens ts → p ≡ 0 → here ≡ place_or end ts → f ≡ limit_fault Nesting here → inside end p d ts ≡ Err f
+  pub too_many : (m : List Symbol) (here : Span) (f : Fault) → Some m ≡ behind_sign opens ts → p ≡ 0 → here ≡ place_or end ts → f ≡ limit_fault Nesting here → inside end p d ts ≡ Err f
   too_many m here f seen none at e = let test : nat_eq p 0 ≡ true = grind (arith, nat_tests) in rw (inside_step end p d ts, ← seen, test, e, at) refl
 
-  pub inner_fails : (m : List Symbol) (f : Fault) → Some m ≡ after opens ts → p ≢ 0 → equivalence end (inside end (p - 1)) d m ≡ Err f → inside end p d ts ≡ Err f
+  pub inner_fails : (m : List Symbol) (f : Fault) → Some m ≡ behind_sign opens ts → p ≢ 0 → equivalence end (inside end (p - 1)) d m ≡ Err f → inside end p d ts ≡ Err f
   inner_fails m f seen some e = let test : nat_eq p 0 ≡ false = grind (arith, nat_tests) in rw (inside_step end p d ts, ← seen, test, e) refl
 
-  pub unclosed : (m : List Symbol) (e : Expression) (r : List Symbol) (f : Fault) → Some m ≡ after opens ts → p ≢ 0 → equivalence end (inside end (p - 1)) d m ≡ done e r
-      → None ≡ after closes r → f ≡ syntax_fault (place_or end r) → inside end p d ts ≡ Err f
+  pub unclosed : (m : List Symbol) (e : Expression) (r : List Symbol) (f : Fault) → Some m ≡ behind_sign opens ts → p ≢ 0 → equivalence end (inside end (p - 1)) d m ≡ done e r
+      → None ≡ behind_sign closes r → f ≡ syntax_fault (place_or end r) → inside end p d ts ≡ Err f
   unclosed m e r f seen some h none is = let test : nat_eq p 0 ≡ false = grind (arith, nat_tests) in rw (inside_step end p d ts, ← seen, test, h, ← none, is) refl
 
-  pub closed_again : (m : List Symbol) (e : Expression) (r n : List Symbol) → Some m ≡ after opens ts → p ≢ 0 → equivalence end (inside end (p - 1)) d m ≡ done e r
-      → Some n ≡ after closes r → inside end p d ts ≡ done e n
+  pub closed_again : (m : List Symbol) (e : Expression) (r n : List Symbol) → Some m ≡ behind_sign opens ts → p ≢ 0 → equivalence end (inside end (p - 1)) d m ≡ done e r
+      → Some n ≡ behind_sign closes r → inside end p d ts ≡ done e n
   closed_again m e r n seen some h close = let test : nat_eq p 0 ≡ false = grind (arith, nat_tests) in rw (inside_step end p d ts, ← seen, test, h, ← close) refl

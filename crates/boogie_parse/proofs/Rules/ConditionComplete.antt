@@ -11,7 +11,7 @@ use Rattle.boogie_parse.specs.declared.symbols.Fixed.TheVariants as fixed
 use Rattle.boogie_parse.specs.contracts.symbols.Fixed.{the_type}
 use Rattle.boogie_parse.specs.declared.symbols.Sign.TheVariants as signs
 use Rattle.boogie_parse.specs.declared.symbols.Symbol.{Symbol}
-use Rattle.boogie_parse.specs.Reading.Outcomes.{Outcome}
+use Rattle.boogie_parse.specs.Reading.Outcomes.{ReadResult}
 use Rattle.boogie_parse.specs.Rules.Grammar.{Is, Reads, one, more, unimplied, implied, conjoined, disjoined, uncompared, compared, unsigned, negated, denied, number, true_word, false_word, name, old_value, grouped}
 use Rattle.boogie_parse.specs.Rules.GrammarLists as grammar
 use Rattle.boogie_parse.specs.Rules.GrammarLists.{ReadsExpressions, last_expression, next_expression, ReadsArguments, no_argument, ReadsGuard, either_way, ReadsCondition, checked, ReadsInvariants, no_invariant, next_invariant}
@@ -97,7 +97,7 @@ pub condition-take : {p : ℕ} {f : Fixed} {ts r : List Symbol} {i : Invariant} 
 condition-take (checked t u is d iu) = let h = reads-take d in omega arith
 condition-take (grammar.free s t u free is d iu) = let h = reads-take d in omega arith
 
-module _ (reads : ℕ → List Symbol → Outcome Expression) (end : Span) (IsSo : Expression → Type 0)
+module _ (reads : ℕ → List Symbol → ReadResult Expression) (end : Span) (IsSo : Expression → Type 0)
     (reads-complete : (p : ℕ) (ts : List Symbol) (e : Expression) (r : List Symbol) → Reads p Equivalence ts e r → IsSo e → Ends Equivalence r → reads p ts ≡ read e r) where
   expressions-read : (p n k : ℕ) (ts : List Symbol) (es : List Expression) (r : List Symbol) → ReadsExpressions p ts es r → AllByRecursion IsSo es → Ends Equivalence r → seen fixed.Comma r ≡ None → length ts ≤ k
       → separated (expression_item reads p) end n k ts ≡ read es r

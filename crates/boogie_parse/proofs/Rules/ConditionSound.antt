@@ -7,7 +7,7 @@ use Rattle.boogie_tree.specs.Tree.{Expression, Guard, Any, Cond, Invariant}
 use Rattle.boogie_parse.specs.declared.symbols.Fixed.{Fixed}
 use Rattle.boogie_parse.specs.declared.symbols.Fixed.TheVariants as fixed
 use Rattle.boogie_parse.specs.declared.symbols.Symbol.{Symbol}
-use Rattle.boogie_parse.specs.Reading.Outcomes.{Read, Outcome}
+use Rattle.boogie_parse.specs.Reading.Outcomes.{Read, ReadResult}
 use Rattle.boogie_parse.specs.Rules.Grammar.{Is, Reads}
 use Rattle.boogie_parse.specs.Rules.GrammarLists.{ReadsExpressions, last_expression, next_expression, ReadsArguments, no_argument, arguments, ReadsGuard, either_way, condition, ReadsCondition, checked, free, ReadsInvariants, no_invariant, next_invariant}
 use Rattle.boogie_parse.specs.Rules.GrammarLimits.{IsShallow, IsShallowGuard}
@@ -20,7 +20,7 @@ use Rattle.boogie_parse.proofs.Rules.ListSound.{then, Stands, seen-sound, behind
 abbrev pub IfThere : {X : Type 0} → Possible X → (Read X → Type 0) → Type 0
 IfThere o P = IfOk o (λ x. IfSome x P)
 
-pub there-sound : {X : Type 0} (P : Read X → Type 0) (o : Outcome X) → IfOk o P → IfThere (there o) P
+pub there-sound : {X : Type 0} (P : Read X → Type 0) (o : ReadResult X) → IfOk o P → IfThere (there o) P
 there-sound P (Ok x) h = h
 there-sound P (Err f) h = tt
 
@@ -32,12 +32,12 @@ module _ {X : Type 0} (item : ℕ → List Symbol → Possible (List X)) (used :
   abbrev Are_items : ℕ → List Symbol → Read (List X) → Type 0
   Are_items n ts x = R n ts x.value x.rest
 
-  front-sound : (n : ℕ) (ts : List Symbol) (i : Read (List X)) (o : Outcome (List X)) → I n ts i.value i.rest → IfOk o (Are_items (n - used i.value) i.rest)
+  front-sound : (n : ℕ) (ts : List Symbol) (i : Read (List X)) (o : ReadResult (List X)) → I n ts i.value i.rest → IfOk o (Are_items (n - used i.value) i.rest)
       → IfOk (with_front i.value o) (Are_items n ts)
   front-sound n ts i (Ok x) s h = next n ts i.value i.rest x.value x.rest s h
   front-sound n ts i (Err f) s h = tt
 
-  repeated_by-sound : (n : ℕ) (ts : List Symbol) (again : List X → List Symbol → Outcome (List X)) (o : Possible (List X)) → IfThere o (λ x. I n ts x.value x.rest)
+  repeated_by-sound : (n : ℕ) (ts : List Symbol) (again : List X → List Symbol → ReadResult (List X)) (o : Possible (List X)) → IfThere o (λ x. I n ts x.value x.rest)
       → ((xs : List X) (us : List Symbol) → IfOk (again xs us) (Are_items (n - used xs) us)) → IfOk (repeated_by again ts o) (Are_items n ts)
   repeated_by-sound n ts again (Ok None) i h = none n ts
   repeated_by-sound n ts again (Ok (Some x)) i h = front-sound n ts x (again x.value x.rest) i (h x.value x.rest)
@@ -54,7 +54,7 @@ pub record Alone {X : Type 0} (P : X → List Symbol → Type 0) (xs : List X) (
   pub list : xs ≡ item ∷ []
   pub holds : P item r
 
-pub one-sound : {X : Type 0} (P : X → List Symbol → Type 0) (o : Outcome X) → IfOk o (λ x. P x.value x.rest) → IfOk (one o) (λ x. Alone P x.value x.rest)
+pub one-sound : {X : Type 0} (P : X → List Symbol → Type 0) (o : ReadResult X) → IfOk o (λ x. P x.value x.rest) → IfOk (one o) (λ x. Alone P x.value x.rest)
 one-sound P (Ok x) h = record { item = x.value; list = refl; holds = h }
 one-sound P (Err f) h = tt
 
@@ -128,7 +128,7 @@ next_of_invariants : (p n : ℕ) (ts : List Symbol) (xs : List Invariant) (m : L
     → Alone (IsConditionRead p fixed.Invariant ts) xs m → AreInvariants p m ys r → AreInvariants p ts (xs ++ ys) r
 next_of_invariants p n ts xs m ys r i h = rw i.list (next_invariant i.holds.0 h.0, (i.holds.1, h.1))
 
-module _ (reads : ℕ → List Symbol → Outcome Expression) (end : Span)
+module _ (reads : ℕ → List Symbol → ReadResult Expression) (end : Span)
     (reads-sound : (p : ℕ) (ts : List Symbol) → IfOk (reads p ts) (λ x. IsExpressionRead p ts x.value x.rest)) where
   pub expressions-sound : (p : ℕ) (ts : List Symbol) → IfOk (expressions_at reads end p ts) (λ x. AreExpressions p ts x.value x.rest)
   unfolding expressions_at
@@ -198,7 +198,7 @@ module _ (reads : ℕ → List Symbol → Outcome Expression) (end : Span)
       repeated-sound (invariant_item reads end p) length (λ n us. Alone (IsConditionRead p fixed.Invariant us)) (λ n. AreInvariants p) (λ n us. (no_invariant, tt)) (next_of_invariants p)
       (λ n us. one_there-sound (IsConditionRead p fixed.Invariant us) (invariant_at reads end p us) (invariant-sound p us)) (length ts) 0 ts
 
-if_sound : (p : ℕ) (ts : List Symbol) (o : Outcome Expression) → ((x : Read Expression) → o ≡ Ok x → IsExpressionRead p ts x.value x.rest) → IfOk o (λ x. IsExpressionRead p ts x.value x.rest)
+if_sound : (p : ℕ) (ts : List Symbol) (o : ReadResult Expression) → ((x : Read Expression) → o ≡ Ok x → IsExpressionRead p ts x.value x.rest) → IfOk o (λ x. IsExpressionRead p ts x.value x.rest)
 if_sound p ts (Ok x) h = h x refl
 if_sound p ts (Err f) h = tt
 

@@ -22,7 +22,7 @@ use Rattle.boogie_parse.specs.Rules.Grammar
 use Rattle.boogie_parse.specs.Rules.Grammar.{Is, Reads, symbols_place, links, compares, is_chain}
 use Rattle.boogie_parse.specs.Rules.GrammarLimits.{depth}
 use Rattle.boogie_parse.specs.Reading.ExpressionReading as reading
-use Rattle.boogie_parse.specs.Reading.ExpressionReading.{Reader, done, joins, sign_joins, Infix, infix_of, infix_at, level_of_chain, chain, chained, opens, closes, after, prefix_at, old_value, sign_value, primary, unary, product, comparison, junction, implication, equivalence, operand, inside, expression}
+use Rattle.boogie_parse.specs.Reading.ExpressionReading.{Reader, done, joins, sign_joins, Infix, infix_of, infix_at, level_of_chain, chain_behind, chained, opens, closes, behind_sign, prefix_at, old_value, sign_value, primary, unary, factor_chain, comparison, junction, implication, equivalence, operand, inside, expression}
 use Rattle.boogie_parse.specs.Ties.ExpressionLaws.{strength, sign_strength, first_strength, Ends}
 use Rattle.boogie_parse.proofs.Reading.ExpressionSteps.{unary_step, implication_step, chain_stops, chain_goes}
 use Rattle.boogie_parse.proofs.Rules.ExpressionSound.{starts}
@@ -98,7 +98,7 @@ at_level end inner Conjunction = chained end chains.Conjunction (comparison end 
 at_level end inner Disjunction = chained end chains.Disjunction (comparison end inner)
 at_level end inner Comparison = comparison end inner
 at_level end inner Sum = reading.sum end inner
-at_level end inner Product = product end inner
+at_level end inner Product = factor_chain end inner
 at_level end inner Unary = unary end inner
 at_level end inner Primary = primary end inner
 
@@ -116,7 +116,7 @@ module _ (end : Span) (p : ℕ) where
     pub turns : ℕ
     pub reads : part c d ts ≡ done first behind
     pub few : turns ≤ depth e
-    pub goes : (k : ℕ) → chain c (part c) (place_or end ts) d (turns + k) first behind ≡ chain c (part c) (place_or end ts) d k e r
+    pub goes : (k : ℕ) → chain_behind c (part c) (place_or end ts) d (turns + k) first behind ≡ chain_behind c (part c) (place_or end ts) d k e r
     pub begins : ((first ≡ e) × (behind ≡ r)) ⊎ ((x : Infix) × (infix_at (level_of_chain c) behind ≡ Some x))
 
   abbrev Run : Chain → List Symbol → Expression → List Symbol → Type 0
@@ -124,12 +124,12 @@ module _ (end : Span) (p : ℕ) where
 
   -- a chain is read to its end
   run_read : (c : Chain) (d : ℕ) (ts : List Symbol) (e : Expression) (r : List Symbol) → depth e ≤ d → Ends (level_of_chain c) r → (w : Runs c d ts e r) →
-      chain c (part c) (place_or end ts) d d w.first w.behind ≡ done e r
+      chain_behind c (part c) (place_or end ts) d d w.first w.behind ≡ done e r
   run_read c d ts e r low ends w =
       let few : w.turns ≤ depth e = w.few in
       let split : w.turns + (d - w.turns) ≡ d = omega arith in
       let run = w.goes (d - w.turns) in
-      let whole : chain c (part c) (place_or end ts) d d w.first w.behind ≡ chain c (part c) (place_or end ts) d (d - w.turns) e r = rw split at run in
+      let whole : chain_behind c (part c) (place_or end ts) d d w.first w.behind ≡ chain_behind c (part c) (place_or end ts) d (d - w.turns) e r = rw split at run in
       whole ∙ chain_stops c (part c) (place_or end ts) d (d - w.turns) e r (stops (level_of_chain c) r ends)
 
   chain_read : (c : Chain) (ts : List Symbol) (e : Expression) (r : List Symbol) → Run c ts e r →
@@ -160,13 +160,13 @@ module _ (end : Span) (p : ℕ) where
       let right : part c (d - 1) m ≡ done b r = read (d - 1) lower ends in
       let seen : infix_at (level_of_chain c) (t ∷ m) ≡ Some (o, t.span, m) = sees (level_of_chain c) t m f o is (chain_links c f ∙ k) in
       let few : w.turns ≤ depth a = w.few in
-      let run_on : (j : ℕ) → chain c (part c) (place_or end ts) d (w.turns + 1 + j) w.first w.behind ≡ chain c (part c) (place_or end ts) d j (Bin (symbols_place ts) o a b) r =
+      let run_on : (j : ℕ) → chain_behind c (part c) (place_or end ts) d (w.turns + 1 + j) w.first w.behind ≡ chain_behind c (part c) (place_or end ts) d j (Bin (symbols_place ts) o a b) r =
       λ j.
       let s : w.turns + 1 + j ≡ w.turns + suc j = omega arith in
       let turn = chain_goes c (part c) (place_or end ts) d (suc j) a (t ∷ m) j (o, t.span, m) seen shallow refl in
-      let step : chain c (part c) (place_or end ts) d (suc j) a (t ∷ m) ≡ chain c (part c) (place_or end ts) d j (Bin (place_or end ts) o a b) r = rw right at turn in
-      let placed : chain c (part c) (place_or end ts) d j (Bin (place_or end ts) o a b) r ≡ chain c (part c) (place_or end ts) d j (Bin (symbols_place ts) o a b) r =
-      ap (λ s. chain c (part c) (place_or end ts) d j (Bin s o a b) r) at in
+      let step : chain_behind c (part c) (place_or end ts) d (suc j) a (t ∷ m) ≡ chain_behind c (part c) (place_or end ts) d j (Bin (place_or end ts) o a b) r = rw right at turn in
+      let placed : chain_behind c (part c) (place_or end ts) d j (Bin (place_or end ts) o a b) r ≡ chain_behind c (part c) (place_or end ts) d j (Bin (symbols_place ts) o a b) r =
+      ap (λ s. chain_behind c (part c) (place_or end ts) d j (Bin s o a b) r) at in
       rw s (w.goes (suc j) ∙ step ∙ placed) in
       let first_begins : ((w.first ≡ Bin (symbols_place ts) o a b) × (w.behind ≡ r)) ⊎ ((x : Infix) × (infix_at (level_of_chain c) w.behind ≡ Some x)) =
       elim w.begins [ inl q ↦ inr ((o, t.span, m), ap (λ u. infix_at (level_of_chain c) u) q.1 ∙ seen) | inr q ↦ inr q ] in
@@ -294,8 +294,8 @@ module _ (end : Span) (p : ℕ) where
       let own = strong v r fixed.CloseParenthesis is_close in
       let ends : Ends Equivalence (v ∷ r) = omega arith in
       let inner : equivalence end (inside end p) d ts ≡ done e (v ∷ r) = read d low ends in
-      let opened : after opens (u ∷ ts) ≡ Some ts = rw is_open refl in
-      let shut : after closes (v ∷ r) ≡ Some r = rw is_close refl in
+      let opened : behind_sign opens (u ∷ ts) ≡ Some ts = rw is_open refl in
+      let shut : behind_sign closes (v ∷ r) ≡ Some r = rw is_close refl in
       rw (opened, inner, shut) refl
 
   old_read : (us : List Symbol) (e : Expression) (r : List Symbol) (t : Symbol) → Is t fixed.Old → ((d : ℕ) → depth e ≤ d → inside end p d us ≡ done e r) →

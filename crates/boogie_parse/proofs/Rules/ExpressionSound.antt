@@ -19,37 +19,37 @@ use Rattle.boogie_parse.specs.declared.grammar.expressions.operators.Chain.{Chai
 use Rattle.boogie_parse.specs.declared.grammar.expressions.operators.Chain.TheVariants as chains
 use Rattle.boogie_parse.specs.declared.grammar.expressions.operators.Prefix.{Prefix}
 use Rattle.boogie_parse.specs.declared.grammar.expressions.operators.Prefix.TheVariants as prefixes
-use Rattle.boogie_parse.specs.Reading.Outcomes.{Read, Outcome, place_or, and_then}
+use Rattle.boogie_parse.specs.Reading.Outcomes.{Read, ReadResult, place_or, and_then}
 use Rattle.boogie_parse.specs.Rules.Grammar
 use Rattle.boogie_parse.specs.Rules.Grammar.{Is, Reads, symbols_place, links, is_chain}
 use Rattle.boogie_parse.specs.Rules.GrammarLimits.{depth}
-use Rattle.boogie_parse.specs.Reading.ExpressionReading.{linked, Reader, done, too_deep, unless_deep, joins, sign_joins, Infix, infix_of, infix_at, followed, operation, level_of_chain, chain, chained, opens, closes, behind_if, after, expected, closed, prefix_of, prefix_by, prefix_at, prefixed, signed, over, old_value, word_value, sign_value, primary, unary, product, comparison, junction_by, junction, implication, equivalence, inside, expression}
+use Rattle.boogie_parse.specs.Reading.ExpressionReading.{linked, Reader, done, too_deep, unless_deep, joins, sign_joins, Infix, infix_of, infix_at, unless_alone, binary_operation, level_of_chain, chain_behind, chained, opens, closes, behind_if, behind_sign, expected, closed, prefix_of, prefix_by, prefix_at, prefixed, if_prefixed, over, old_value, word_value, sign_value, primary, unary, factor_chain, comparison, junction_by, junction, implication, equivalence, inside, expression}
 use Rattle.boogie_parse.specs.Reading.ExpressionReading as reading
 use Rattle.boogie_parse.proofs.Reading.ExpressionSteps.{same_read}
 
-no_fault : {X : Type 0} {f : Fault} {y : Read X} → ◌≡◌ {A = Outcome X} (Err f) (Ok y) → ⊥
+no_fault : {X : Type 0} {f : Fault} {y : Read X} → ◌≡◌ {A = ReadResult X} (Err f) (Ok y) → ⊥
 no_fault e = cc
 
 nothing : {X : Type 0} {x : X} → None ≡ Some x → ⊥
 nothing e = cc
 
 -- the parts of an outcome that is Ok
-record Goes {X Y : Type 0} (x : Outcome X) (go : X → List Symbol → Outcome Y) (y : Read Y) : Type 0 where
+record Goes {X Y : Type 0} (x : ReadResult X) (go : X → List Symbol → ReadResult Y) (y : Read Y) : Type 0 where
   pub value : X
   pub rest : List Symbol
   pub first : x ≡ Ok (record { value = value; rest = rest })
   pub behind : go value rest ≡ Ok y
 
-goes : {X Y : Type 0} (x : Outcome X) (go : X → List Symbol → Outcome Y) (y : Read Y) → and_then x go ≡ Ok y → Goes x go y
+goes : {X Y : Type 0} (x : ReadResult X) (go : X → List Symbol → ReadResult Y) (y : Read Y) → and_then x go ≡ Ok y → Goes x go y
 goes (Ok z) go y e = record { value = z.value; rest = z.rest; first = refl; behind = e }
 goes (Err f) go y e = absurd (no_fault e)
 
-follows : (a : Expression) (r : List Symbol) (go : Op → Span → List Symbol → Outcome Expression) (o : Option Infix) (y : Read Expression) → followed a r go o ≡ Ok y →
+follows : (a : Expression) (r : List Symbol) (go : Op → Span → List Symbol → ReadResult Expression) (o : Option Infix) (y : Read Expression) → unless_alone a r go o ≡ Ok y →
     (done a r ≡ Ok y) ⊎ ((x : Infix) × (o ≡ Some x) × (go x.0 x.1 x.2 ≡ Ok y))
 follows a r go None y e = inl e
 follows a r go (Some x) y e = inr (x, refl, e)
 
-not_deep : (b : Bool) (here : Span) (x : Outcome Expression) (y : Read Expression) → unless_deep b here x ≡ Ok y → (b ≡ false) × (x ≡ Ok y)
+not_deep : (b : Bool) (here : Span) (x : ReadResult Expression) (y : Read Expression) → unless_deep b here x ≡ Ok y → (b ≡ false) × (x ≡ Ok y)
 not_deep true here x y e = absurd (no_fault e)
 not_deep false here x y e = (refl, e)
 
@@ -130,21 +130,21 @@ at_place at h = rw at h
 -- chains
 sound_chain : {p : ℕ} (c : Chain) (part : Reader) → IsSound p (right_of (level_of_chain c)) part →
     (here : Span) (ts : List Symbol) (d k : ℕ) (a : Expression) (r : List Symbol) (x : Read Expression) →
-    here ≡ symbols_place ts → Reads p (level_of_chain c) ts a r → depth a ≤ d → chain c part here d k a r ≡ Ok x → Good p (level_of_chain c) d ts x
-unfolding chain
+    here ≡ symbols_place ts → Reads p (level_of_chain c) ts a r → depth a ≤ d → chain_behind c part here d k a r ≡ Ok x → Good p (level_of_chain c) d ts x
+unfolding chain_behind
 sound_chain c part sound here ts d zero a r x at h low e =
     elim (follows a r (λ o at m. too_deep at) (infix_at (level_of_chain c) r) x e) [
       | inl w ↦ good_done h low w
       | inr w ↦ absurd (no_fault w.2)
     ]
 sound_chain {p} c part sound here ts d (suc k) a r x at h low e =
-    elim (follows a r (linked part here d (chain c part here d k) a) (infix_at (level_of_chain c) r) x e) [
+    elim (follows a r (linked part here d (chain_behind c part here d k) a) (infix_at (level_of_chain c) r) x e) [
       | inl w ↦ good_done h low w
       | inr w ↦
           let z : Infix = w.0 in
           let b = begins (level_of_chain c) r z w.1 in
-          let q = not_deep (nat_le d (depth a)) z.1 (and_then (part (d - 1) z.2) (λ b n. chain c part here d k (Bin here z.0 a b) n)) x w.2 in
-          let g = goes (part (d - 1) z.2) (λ b n. chain c part here d k (Bin here z.0 a b) n) x q.1 in
+          let q = not_deep (nat_le d (depth a)) z.1 (and_then (part (d - 1) z.2) (λ b n. chain_behind c part here d k (Bin here z.0 a b) n)) x w.2 in
+          let g = goes (part (d - 1) z.2) (λ b n. chain_behind c part here d k (Bin here z.0 a b) n) x q.1 in
           let right = sound (d - 1) z.2 (record { value = g.value; rest = g.rest }) g.first in
           let left : Reads p (level_of_chain c) ts a (b.symbol ∷ z.2) = rw b.front at h in
           let spelled : links (level_of_chain c) b.word ≡ Some z.0 = sym (joins_links c b.word) ∙ b.spelled in
@@ -158,12 +158,12 @@ sound_chain {p} c part sound here ts d (suc k) a r x at h low e =
 
 pub sound_chained : (p : ℕ) (end : Span) (c : Chain) (part : Reader) → IsSound p (right_of (level_of_chain c)) part → IsSound p (level_of_chain c) (chained end c part)
 sound_chained p end c part sound d ts x e =
-    let g = goes (part d ts) (chain c part (place_or end ts) d d) x e in
+    let g = goes (part d ts) (chain_behind c part (place_or end ts) d d) x e in
     let first = sound d ts (record { value = g.value; rest = g.rest }) g.first in
     sound_chain c part sound (place_or end ts) ts d d g.value g.rest x (starts end first.reads) (Grammar.one (level_is_chain c) first.reads) first.low g.behind
 
 -- signs before an operand
-signed_by : (plain : Outcome Expression) (go : Prefix → Span → List Symbol → Outcome Expression) (o : Option (Prefix × Span × List Symbol)) (y : Read Expression) → signed plain go o ≡ Ok y →
+signed_by : (plain : ReadResult Expression) (go : Prefix → Span → List Symbol → ReadResult Expression) (o : Option (Prefix × Span × List Symbol)) (y : Read Expression) → if_prefixed plain go o ≡ Ok y →
     (plain ≡ Ok y) ⊎ ((x : Prefix × Span × List Symbol) × (o ≡ Some x) × (go x.0 x.1 x.2 ≡ Ok y))
 signed_by plain go None y e = inl e
 signed_by plain go (Some x) y e = inr (x, refl, e)
@@ -206,7 +206,7 @@ prefix_low : {d : ℕ} (o : Prefix) (here : Span) (e : Expression) → depth e �
 prefix_low prefixes.Not here e low = omega arith
 prefix_low prefixes.Neg here e low = omega arith
 
-sound_over : {p d : ℕ} {ts : List Symbol} (x : Read Expression) (z : Prefix × Span × List Symbol) (read : Outcome Expression) →
+sound_over : {p d : ℕ} {ts : List Symbol} (x : Read Expression) (z : Prefix × Span × List Symbol) (read : ReadResult Expression) →
     ((y : Read Expression) → read ≡ Ok y → Good p Unary d z.2 y) → BeginsSigned ts z → over z.0 z.1 read ≡ Ok x → Good p Unary (suc d) ts x
 sound_over {p} {d} {ts} x z read sound b e =
     let g = goes read (λ e r. done (prefixed z.0 z.1 e) r) x e in
@@ -275,12 +275,12 @@ sound_primary p end inner sound d [] x e = absurd (no_fault e)
 sound_primary p end inner sound d (t ∷ ts) x e = sound_sign p inner sound d t ts x t.sign refl e
 
 -- the operation whose right operand is read: at a level whose operators are `f`
-sound_operation : {p d : ℕ} {l : Level} (here : Span) (ts : List Symbol) (a : Expression) (o : Op) (right : Outcome Expression) (test : Bool) (at : Span) (x : Read Expression) →
+sound_operation : {p d : ℕ} {l : Level} (here : Span) (ts : List Symbol) (a : Expression) (o : Op) (right : ReadResult Expression) (test : Bool) (at : Span) (x : Read Expression) →
     test ≡ nat_le d (depth a) → here ≡ symbols_place ts →
     ((y : Read Expression) → right ≡ Ok y → (depth y.value ≤ d - 1) × Reads p l ts (Bin (symbols_place ts) o a y.value) y.rest) →
-    depth a ≤ d → unless_deep test at (operation here o a right) ≡ Ok x → Good p l d ts x
+    depth a ≤ d → unless_deep test at (binary_operation here o a right) ≡ Ok x → Good p l d ts x
 sound_operation {p} {d} {l} here ts a o right test at x is at_start reads low e =
-    let q = not_deep test at (operation here o a right) x e in
+    let q = not_deep test at (binary_operation here o a right) x e in
     let g = goes right (λ b r. done (Bin here o a b) r) x q.1 in
     let w = reads (record { value = g.value; rest = g.rest }) g.first in
     let shown : nat_le d (depth a) ≡ false = sym is ∙ q.0 in
@@ -292,9 +292,9 @@ sound_operation {p} {d} {l} here ts a o right test at x is at_start reads low e 
 pub sound_comparison : (p : ℕ) (end : Span) (inner : Reader) → IsSound p Sum (reading.sum end inner) → IsSound p Comparison (comparison end inner)
 unfolding comparison
 sound_comparison p end inner sound d ts x e =
-    let go : Expression → List Symbol → Op → Span → List Symbol → Outcome Expression =
-    λ a r o at m. unless_deep (nat_le d (depth a)) at (operation (place_or end ts) o a (reading.sum end inner (d - 1) m)) in
-    let g = goes (reading.sum end inner d ts) (λ a r. followed a r (go a r) (infix_at Comparison r)) x e in
+    let go : Expression → List Symbol → Op → Span → List Symbol → ReadResult Expression =
+    λ a r o at m. unless_deep (nat_le d (depth a)) at (binary_operation (place_or end ts) o a (reading.sum end inner (d - 1) m)) in
+    let g = goes (reading.sum end inner d ts) (λ a r. unless_alone a r (go a r) (infix_at Comparison r)) x e in
     let first = sound d ts (record { value = g.value; rest = g.rest }) g.first in
     elim (follows g.value g.rest (go g.value g.rest) (infix_at Comparison g.rest) x g.behind) [
       | inl w ↦ good_done (Grammar.uncompared first.reads) first.low w
@@ -307,7 +307,7 @@ sound_comparison p end inner sound d ts x e =
     ]
 
 sound_junction_chain : (p : ℕ) (part : Reader) → IsSound p Comparison part → (here : Span) (ts : List Symbol) (d : ℕ) (a : Expression) (r : List Symbol) (x : Read Expression) (o : Option Infix) →
-    here ≡ symbols_place ts → Reads p Comparison ts a r → depth a ≤ d → chain (junction_by o) part here d d a r ≡ Ok x → Good p Junction d ts x
+    here ≡ symbols_place ts → Reads p Comparison ts a r → depth a ≤ d → chain_behind (junction_by o) part here d d a r ≡ Ok x → Good p Junction d ts x
 sound_junction_chain p part sound here ts d a r x None at h low e =
     lift_good (λ e r h. Grammar.conjoined h) (sound_chain chains.Conjunction part sound here ts d d a r x at (Grammar.one refl h) low e)
 sound_junction_chain p part sound here ts d a r x (Some z) at h low e =
@@ -315,7 +315,7 @@ sound_junction_chain p part sound here ts d a r x (Some z) at h low e =
 
 pub sound_junction : (p : ℕ) (end : Span) (inner : Reader) → IsSound p Comparison (comparison end inner) → IsSound p Junction (junction end inner)
 sound_junction p end inner sound d ts x e =
-    let g = goes (comparison end inner d ts) (λ a r. chain (junction_by (infix_at Disjunction r)) (comparison end inner) (place_or end ts) d d a r) x e in
+    let g = goes (comparison end inner d ts) (λ a r. chain_behind (junction_by (infix_at Disjunction r)) (comparison end inner) (place_or end ts) d d a r) x e in
     let first = sound d ts (record { value = g.value; rest = g.rest }) g.first in
     sound_junction_chain p (comparison end inner) sound (place_or end ts) ts d g.value g.rest x (infix_at Disjunction g.rest) (starts end first.reads) first.reads first.low g.behind
 
@@ -333,16 +333,16 @@ implied_reads {p} {ts} {m} {r} {a} {b} {f} {o} t is j h g =
 pub sound_implication : (p : ℕ) (end : Span) (inner : Reader) → IsSound p Junction (junction end inner) → IsSound p Implication (implication end inner)
 unfolding implication
 sound_implication p end inner sound zero ts x e =
-    let g = goes (junction end inner zero ts) (λ a r. followed a r (λ o at m. too_deep at) (infix_at Implication r)) x e in
+    let g = goes (junction end inner zero ts) (λ a r. unless_alone a r (λ o at m. too_deep at) (infix_at Implication r)) x e in
     let first = sound zero ts (record { value = g.value; rest = g.rest }) g.first in
     elim (follows g.value g.rest (λ o at m. too_deep at) (infix_at Implication g.rest) x g.behind) [
       | inl w ↦ good_done (Grammar.unimplied first.reads) first.low w
       | inr w ↦ absurd (no_fault w.2)
     ]
 sound_implication p end inner sound (suc d) ts x e =
-    let go : Expression → List Symbol → Op → Span → List Symbol → Outcome Expression =
-    λ a r o at m. unless_deep (nat_le (suc d) (depth a)) at (operation (place_or end ts) o a (implication end inner d m)) in
-    let g = goes (junction end inner (suc d) ts) (λ a r. followed a r (go a r) (infix_at Implication r)) x e in
+    let go : Expression → List Symbol → Op → Span → List Symbol → ReadResult Expression =
+    λ a r o at m. unless_deep (nat_le (suc d) (depth a)) at (binary_operation (place_or end ts) o a (implication end inner d m)) in
+    let g = goes (junction end inner (suc d) ts) (λ a r. unless_alone a r (go a r) (infix_at Implication r)) x e in
     let first = sound (suc d) ts (record { value = g.value; rest = g.rest }) g.first in
     let less : d ≤ suc d - 1 = omega arith in
     elim (follows g.value g.rest (go g.value g.rest) (infix_at Implication g.rest) x g.behind) [
@@ -362,7 +362,7 @@ pub sound_equivalence : (p : ℕ) (end : Span) (inner : Reader) → IsSoundGroup
 sound_equivalence p end inner group =
     let unaries = sound_unary p end inner (sound_primary p end inner group) in
     let products = sound_chained p end chains.Product (unary end inner) unaries in
-    let sums = sound_chained p end chains.Sum (product end inner) products in
+    let sums = sound_chained p end chains.Sum (factor_chain end inner) products in
     let comparisons = sound_comparison p end inner sums in
     let implications = sound_implication p end inner (sound_junction p end inner comparisons) in
     sound_chained p end chains.Equivalence (implication end inner) implications
@@ -377,7 +377,7 @@ begins_if : (test : Sign → Bool) (t : Symbol) (ts m : List Symbol) (b : Bool) 
 begins_if test t ts m true p e = let same : ts ≡ m = cc in record { symbol = t; front = ap (λ z. t ∷ z) same; passes = p }
 begins_if test t ts m false p e = absurd (nothing e)
 
-begins_mark : (test : Sign → Bool) (r m : List Symbol) → after test r ≡ Some m → BeginsMark test r m
+begins_mark : (test : Sign → Bool) (r m : List Symbol) → behind_sign test r ≡ Some m → BeginsMark test r m
 begins_mark test [] m e = absurd (nothing e)
 begins_mark test (t ∷ ts) m e = begins_if test t ts m (test t.sign) refl e
 
@@ -392,7 +392,7 @@ closes_is : (s : Sign) → closes s ≡ true → s ≡ signs.Fixed fixed.ClosePa
 closes_is (signs.Fixed fixed.CloseParenthesis) e = refl
 closes_is s e = absurd (no_truth e)
 
-expects : (end : Span) (ts : List Symbol) (go : List Symbol → Outcome Expression) (o : Option (List Symbol)) (y : Read Expression) → expected end ts go o ≡ Ok y →
+expects : (end : Span) (ts : List Symbol) (go : List Symbol → ReadResult Expression) (o : Option (List Symbol)) (y : Read Expression) → expected end ts go o ≡ Ok y →
     (m : List Symbol) × (o ≡ Some m) × (go m ≡ Ok y)
 expects end ts go None y e = absurd (no_fault e)
 expects end ts go (Some m) y e = (m, refl, e)
@@ -400,7 +400,7 @@ expects end ts go (Some m) y e = (m, refl, e)
 sound_closed : {q d : ℕ} (end : Span) (ts m : List Symbol) (a : Expression) (r : List Symbol) (x : Read Expression) →
     BeginsMark opens ts m → Reads q Equivalence m a r → depth a ≤ d → closed end a r ≡ Ok x → GoodGroup (suc q) d ts x
 sound_closed {q} {d} end ts m a r x u h low e =
-    let w = expects end r (done a) (after closes r) x e in
+    let w = expects end r (done a) (behind_sign closes r) x e in
     let v = begins_mark closes r w.0 w.1 in
     let inner : Reads q Equivalence m a (v.symbol ∷ w.0) = subst (λ r. Reads q Equivalence m a r) v.front h in
     let whole : InParentheses (suc q) (u.symbol ∷ m) a w.0 = in_parentheses u.symbol v.symbol (opens_is u.symbol.sign u.passes) inner (closes_is v.symbol.sign v.passes) in
@@ -410,10 +410,10 @@ sound_closed {q} {d} end ts m a r x u h low e =
 pub sound_inside : (end : Span) (p : ℕ) → IsSoundGroup p (inside end p)
 unfolding inside
 sound_inside end zero d ts x e =
-    let w = expects end ts (λ m. too_deep (place_or end ts)) (after opens ts) x e in
+    let w = expects end ts (λ m. too_deep (place_or end ts)) (behind_sign opens ts) x e in
     absurd (no_fault w.2)
 sound_inside end (suc p) d ts x e =
-    let w = expects end ts (λ m. and_then (equivalence end (inside end p) d m) (closed end)) (after opens ts) x e in
+    let w = expects end ts (λ m. and_then (equivalence end (inside end p) d m) (closed end)) (behind_sign opens ts) x e in
     let g = goes (equivalence end (inside end p) d w.0) (closed end) x w.2 in
     let i = sound_equivalence p end (inside end p) (sound_inside end p) d w.0 (record { value = g.value; rest = g.rest }) g.first in
     sound_closed end ts w.0 g.value g.rest x (begins_mark opens ts w.0 w.1) i.reads i.low g.behind

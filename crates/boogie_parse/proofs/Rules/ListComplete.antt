@@ -14,7 +14,7 @@ use Rattle.boogie_parse.specs.declared.symbols.Fixed.TheVariants as fixed
 use Rattle.boogie_parse.specs.contracts.symbols.Fixed.{the_type}
 use Rattle.boogie_parse.specs.declared.symbols.Sign.TheVariants as signs
 use Rattle.boogie_parse.specs.declared.symbols.Symbol.{Symbol}
-use Rattle.boogie_parse.specs.Reading.Outcomes.{Read, Outcome}
+use Rattle.boogie_parse.specs.Reading.Outcomes.{Read, ReadResult}
 use Rattle.boogie_parse.specs.Rules.Grammar.{Is, Reads, one, more, unimplied, implied, conjoined, disjoined, uncompared, compared, unsigned, negated, denied, number, true_word, false_word, name, old_value, grouped}
 use Rattle.boogie_parse.specs.Rules.GrammarLists as grammar
 use Rattle.boogie_parse.specs.Rules.GrammarLists.{IsName, ReadsNames, last_name, next_name, ReadsGroup, ReadsVariables, last_group, next_group, of_type, type_named, ReadsFormals, no_formal, ReadsResults, no_result, results}
@@ -55,7 +55,7 @@ new_name-it end (suc n) t ts x h is = name-it end t ts x is
 pub bind : {A B : Type 0} (o : Result A Fault) (a : A) (f : A → Result B Fault) (z : Result B Fault) → o ≡ Ok a → f a ≡ z → o >>= f ≡ z
 bind o a f z e h = rw e h
 
-module _ {X : Type 0} (item : ℕ → List Symbol → Outcome (List X)) (end : Span) where
+module _ {X : Type 0} (item : ℕ → List Symbol → ReadResult (List X)) (end : Span) where
   pub last-read : (n k : ℕ) (ts r : List Symbol) (xs : List X) → 0 < k → item n ts ≡ read xs r → seen fixed.Comma r ≡ None → separated item end n k ts ≡ read xs r
   unfolding separated
   last-read n zero ts r xs h i c = absurd (omega arith)

@@ -13,7 +13,7 @@ use Rattle.boogie_parse.specs.contracts.symbols.Fixed.{the_type}
 use Rattle.boogie_parse.specs.declared.symbols.Sign.{Sign}
 use Rattle.boogie_parse.specs.declared.symbols.Sign.TheVariants as signs
 use Rattle.boogie_parse.specs.declared.symbols.Symbol.{Symbol}
-use Rattle.boogie_parse.specs.Reading.Outcomes.{Read, Outcome}
+use Rattle.boogie_parse.specs.Reading.Outcomes.{Read, ReadResult}
 use Rattle.boogie_parse.specs.Rules.Grammar.{Is}
 use Rattle.boogie_parse.specs.Rules.GrammarLists.{IsName, ReadsNames, last_name, next_name, ReadsGroup, group, ReadsVariables, last_group, next_group, of_type, type_named, ReadsFormals, no_formal, formals, ReadsResults, no_result, results}
 use Rattle.boogie_parse.specs.Reading.ListReading.{◌>>=◌, read, says, seen, must_be, behind, name_by, name_at, new_name, with_front, one, more_by, separated, name_item, names_at, listed_names, type_by, type_said, type_at, group_at, variables_at, declared_behind, opened_by, opened, listed_by, formals_at, results_by, results_at}
@@ -72,7 +72,7 @@ name-sound end (t ∷ ts) = named_by t ts t.sign refl
 abbrev pub NewName : ℕ → List Symbol → Read Name → Type 0
 NewName n ts x = Named ts x × (0 < n)
 
-with_room : (n : ℕ) (ts : List Symbol) → 0 < n → (o : Outcome Name) → IfOk o (Named ts) → IfOk o (NewName n ts)
+with_room : (n : ℕ) (ts : List Symbol) → 0 < n → (o : ReadResult Name) → IfOk o (Named ts) → IfOk o (NewName n ts)
 with_room n ts h (Ok x) q = (q, h)
 with_room n ts h (Err f) q = tt
 
@@ -82,7 +82,7 @@ new_name-sound end zero ts = then (Named ts) (NewName zero ts) (name_at end ts) 
 new_name-sound end (suc n) ts = with_room (suc n) ts (omega arith) (name_at end ts) (name-sound end ts)
 
 -- Lists with commas: what holds of one item, what of a last item, and what of an item before more.
-module _ {X : Type 0} (item : ℕ → List Symbol → Outcome (List X)) (I R : ℕ → List Symbol → List X → List Symbol → Type 0)
+module _ {X : Type 0} (item : ℕ → List Symbol → ReadResult (List X)) (I R : ℕ → List Symbol → List X → List Symbol → Type 0)
     (last : (n : ℕ) (ts : List Symbol) (xs : List X) (r : List Symbol) → I n ts xs r → R n ts xs r)
     (next : (n : ℕ) (ts : List Symbol) (xs : List X) (u : Symbol) (m : List Symbol) (ys : List X) (r : List Symbol)
     → I n ts xs (u ∷ m) → Is u fixed.Comma → R (n - length xs) m ys r → R n ts (xs ++ ys) r)
@@ -90,12 +90,12 @@ module _ {X : Type 0} (item : ℕ → List Symbol → Outcome (List X)) (I R : �
   abbrev Is_list : ℕ → List Symbol → Read (List X) → Type 0
   Is_list n ts x = R n ts x.value x.rest
 
-  front-sound : (n : ℕ) (ts mid : List Symbol) (xs : List X) (comma : Read Span) (o : Outcome (List X)) → I n ts xs mid → Stands fixed.Comma mid comma
+  front-sound : (n : ℕ) (ts mid : List Symbol) (xs : List X) (comma : Read Span) (o : ReadResult (List X)) → I n ts xs mid → Stands fixed.Comma mid comma
       → IfOk o (Is_list (n - length xs) comma.rest) → IfOk (with_front xs o) (Is_list n ts)
   front-sound n ts mid xs comma (Ok x) i s h = next n ts xs s.symbol comma.rest x.value x.rest (subst (I n ts xs) s.all i) s.is h
   front-sound n ts mid xs comma (Err f) i s h = tt
 
-  more-sound : (n : ℕ) (ts mid : List Symbol) (xs : List X) (more : List Symbol → Outcome (List X)) (o : Option (Read Span)) → I n ts xs mid
+  more-sound : (n : ℕ) (ts mid : List Symbol) (xs : List X) (more : List Symbol → ReadResult (List X)) (o : Option (Read Span)) → I n ts xs mid
       → IfSome o (Stands fixed.Comma mid) → ((us : List Symbol) → IfOk (more us) (Is_list (n - length xs) us)) → IfOk (more_by more xs mid o) (Is_list n ts)
   more-sound n ts mid xs more None i s h = last n ts xs mid i
   more-sound n ts mid xs more (Some comma) i s h = front-sound n ts mid xs comma (more comma.rest) i s (h comma.rest)
@@ -116,7 +116,7 @@ record OneName (n : ℕ) (ts : List Symbol) (xs : List Name) (r : List Symbol) :
   all : ts ≡ symbol ∷ r
   room : 0 < n
 
-one_name : (n : ℕ) (ts : List Symbol) (o : Outcome Name) → IfOk o (NewName n ts) → IfOk (one o) (λ x. OneName n ts x.value x.rest)
+one_name : (n : ℕ) (ts : List Symbol) (o : ReadResult Name) → IfOk o (NewName n ts) → IfOk (one o) (λ x. OneName n ts x.value x.rest)
 one_name n ts (Ok x) q = record { name = x.value; symbol = q.0.symbol; is = q.0.is; list = refl; all = q.0.all; room = q.1 }
 one_name n ts (Err f) q = tt
 
@@ -215,7 +215,7 @@ before R f x mid r h s = record { symbol = s.symbol; is = s.is; spelled = subst 
 -- a value is read, and a word or mark must stand behind it
 pub before-sound :
     {X : Type 0} (R : X → List Symbol → Type 0) (end : Span) (f : Fixed) (x : X) (mid : List Symbol) → R x mid
-    → IfOk (behind end f mid >>= (λ (r : Read Span). let o : Outcome X = read x r.rest in o)) (Before R f)
+    → IfOk (behind end f mid >>= (λ (r : Read Span). let o : ReadResult X = read x r.rest in o)) (Before R f)
 before-sound R end f x mid h =
     then (Stands f mid) (Before R f) (behind end f mid) _ (behind-sound end f mid) (λ r s. before R f x mid r h s)
 
@@ -238,7 +238,7 @@ pub record Opens (f : Fixed) (p : ℕ) (ts : List Symbol) (x : Read ℕ) : Type 
   pub all : ts ≡ symbol ∷ x.rest
   pub room : p ≡ suc x.value
 
-opened_by-sound : (f : Fixed) (p : ℕ) (ts : List Symbol) (o : Outcome Span) → IfOk o (Stands f ts) → IfOk (opened_by p o) (Opens f p ts)
+opened_by-sound : (f : Fixed) (p : ℕ) (ts : List Symbol) (o : ReadResult Span) → IfOk o (Stands f ts) → IfOk (opened_by p o) (Opens f p ts)
 opened_by-sound f zero ts (Ok r) h = tt
 opened_by-sound f (suc p) ts (Ok r) h = record { symbol = h.symbol; is = h.is; all = h.all; room = refl }
 opened_by-sound f zero ts (Err e) h = tt
@@ -253,7 +253,7 @@ AreFormals p n ts vs r = ReadsFormals p ts vs r × (length vs ≤ n)
 
 -- the list in parentheses is empty, or not
 pub listed-sound :
-    {X : Type 0} (R P : List X → List Symbol → Type 0) (end : Span) (list : List Symbol → Outcome (List X)) (ts : List Symbol) (o : Option (Read Span))
+    {X : Type 0} (R P : List X → List Symbol → Type 0) (end : Span) (list : List Symbol → ReadResult (List X)) (ts : List Symbol) (o : Option (Read Span))
     → IfSome o (Stands fixed.CloseParenthesis ts) → IfOk (list ts) (λ x. R x.value x.rest)
     → ((r : Read Span) → Stands fixed.CloseParenthesis ts r → P [] r.rest)
     → ((x : Read (List X)) → Before R fixed.CloseParenthesis x → P x.value x.rest)

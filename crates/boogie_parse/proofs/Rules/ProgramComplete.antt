@@ -11,7 +11,7 @@ use Rattle.boogie_parse.specs.declared.symbols.Fixed.{Fixed}
 use Rattle.boogie_parse.specs.declared.symbols.Fixed.TheVariants as fixed
 use Rattle.boogie_parse.specs.contracts.symbols.Fixed.{the_type}
 use Rattle.boogie_parse.specs.declared.symbols.Symbol.{Symbol}
-use Rattle.boogie_parse.specs.Reading.Outcomes.{Outcome}
+use Rattle.boogie_parse.specs.Reading.Outcomes.{ReadResult}
 use Rattle.boogie_parse.specs.Rules.Grammar.{Is, Reads}
 use Rattle.boogie_parse.specs.Rules.GrammarLists as lists
 use Rattle.boogie_parse.specs.Rules.GrammarLists.{ReadsNames, ReadsVariables, last_group, next_group, ReadsCondition, ReadsDeclared, declared}
@@ -177,7 +177,7 @@ program-anew : {p c : ℕ} {ts : List Symbol} {groups : List (List Declaration)}
 program-anew grammar.no_declaration = anew-end
 program-anew (grammar.next_declaration d ds) = declaration-anew d
 
-module _ (reads : ℕ → List Symbol → Outcome Expression) (end : Span) (IsSo : Expression → Type 0)
+module _ (reads : ℕ → List Symbol → ReadResult Expression) (end : Span) (IsSo : Expression → Type 0)
     (reads-complete : (p : ℕ) (ts : List Symbol) (e : Expression) (r : List Symbol) → Reads p Equivalence ts e r → IsSo e → Ends Equivalence r → reads p ts ≡ read e r) (p : ℕ) where
   requires-complete : (f : Fixed) (ts : List Symbol) (i : Invariant) (r : List Symbol) → f ≡ fixed.Requires → ReadsCondition p f ts i r → IsSo i.cond → specification_at reads end p ts ≡ Ok (Some (record { value = Requires i; rest = r }))
   unfolding specification_at free_at claimed_at requires_at

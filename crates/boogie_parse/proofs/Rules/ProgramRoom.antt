@@ -13,7 +13,7 @@ use Rattle.boogie_parse.specs.declared.symbols.Fixed.TheVariants as fixed
 use Rattle.boogie_parse.specs.declared.symbols.Sign.{Sign}
 use Rattle.boogie_parse.specs.declared.symbols.Sign.TheVariants as signs
 use Rattle.boogie_parse.specs.declared.symbols.Symbol.{Symbol}
-use Rattle.boogie_parse.specs.Reading.Outcomes.{Read, Outcome, limit_fault}
+use Rattle.boogie_parse.specs.Reading.Outcomes.{Read, ReadResult, limit_fault}
 use Rattle.boogie_parse.specs.Rules.GrammarProgram.{Head}
 use Rattle.boogie_parse.specs.Reading.ListReading.{◌>>=◌, Possible, there, one, one_there, seen, behind, name_at, new_name, with_front, more_by, separated, name_item, names_at, repeated_by, repeated, group_at, variables_at, declared_behind, opened_by, opened, listed_by, formals_at, results_by, results_at, expression_at, expression_item, expressions_at, arguments_at, guard_by, guard_at, claim_at, condition_behind, invariant_by, invariant_at, invariant_item, invariants_at}
 use Rattle.boogie_parse.specs.Reading.StatementReading.{Inside, other_by, else_by, assert_at, assume_at, assign_at, called_at, call_into, call_by, call_at, named_by, named_at, loop_at, branch_by, statement_by, statement_at, statement_item, list_at, no_block, block_by, no_branch, inside_at}
@@ -83,11 +83,11 @@ module _ (IsSame : Which → Type 0) where
   onward : {A B : Type 0} (x : Result A Fault) (f g : A → Result B Fault) → ((a : A) → Keeps IsSame (f a) (g a)) → Keeps IsSame (x >>= f) (x >>= g)
   onward x f g h = then x x f g (same x) h
 
-  there_keeps : {X : Type 0} (x y : Outcome X) → Keeps IsSame x y → Keeps IsSame (there x) (there y)
+  there_keeps : {X : Type 0} (x y : ReadResult X) → Keeps IsSame x y → Keeps IsSame (there x) (there y)
   there_keeps (Ok a) y k = ap there k
   there_keeps (Err e) y k = fault_on e y there (λ e. refl) k
 
-  one_keeps : {X : Type 0} (x y : Outcome X) → Keeps IsSame x y → Keeps IsSame (one x) (one y)
+  one_keeps : {X : Type 0} (x y : ReadResult X) → Keeps IsSame x y → Keeps IsSame (one x) (one y)
   one_keeps (Ok a) y k = ap one k
   one_keeps (Err e) y k = fault_on e y one (λ e. refl) k
 
@@ -96,15 +96,15 @@ module _ (IsSame : Which → Type 0) where
   one_there_keeps (Ok (Some a)) y k = ap one_there k
   one_there_keeps (Err e) y k = fault_on e y one_there (λ e. refl) k
 
-  front_keeps : {X : Type 0} (xs : List X) (x y : Outcome (List X)) → Keeps IsSame x y → Keeps IsSame (with_front xs x) (with_front xs y)
+  front_keeps : {X : Type 0} (xs : List X) (x y : ReadResult (List X)) → Keeps IsSame x y → Keeps IsSame (with_front xs x) (with_front xs y)
   front_keeps xs (Ok a) y k = ap (with_front xs) k
   front_keeps xs (Err e) y k = fault_on e y (with_front xs) (λ e. refl) k
 
-  more_keeps : {X : Type 0} (f g : List Symbol → Outcome (List X)) (xs : List X) (ts : List Symbol) (o : Option (Read Span)) → ((us : List Symbol) → Keeps IsSame (f us) (g us)) → Keeps IsSame (more_by f xs ts o) (more_by g xs ts o)
+  more_keeps : {X : Type 0} (f g : List Symbol → ReadResult (List X)) (xs : List X) (ts : List Symbol) (o : Option (Read Span)) → ((us : List Symbol) → Keeps IsSame (f us) (g us)) → Keeps IsSame (more_by f xs ts o) (more_by g xs ts o)
   more_keeps f g xs ts None h = refl
   more_keeps f g xs ts (Some comma) h = front_keeps xs (f comma.rest) (g comma.rest) (h comma.rest)
 
-  separated_keeps : {X : Type 0} (S : Type 0) (f g : ℕ → List Symbol → Outcome (List X)) → ((n m : ℕ) (ts : List Symbol) → Roomier S n m → Keeps IsSame (f n ts) (g m ts)) → (end : Span) (turns n m : ℕ) (ts : List Symbol) → Roomier S n m
+  separated_keeps : {X : Type 0} (S : Type 0) (f g : ℕ → List Symbol → ReadResult (List X)) → ((n m : ℕ) (ts : List Symbol) → Roomier S n m → Keeps IsSame (f n ts) (g m ts)) → (end : Span) (turns n m : ℕ) (ts : List Symbol) → Roomier S n m
       → Keeps IsSame (separated f end n turns ts) (separated g end m turns ts)
   unfolding separated
   separated_keeps S f g h end zero n m ts le = refl
@@ -112,7 +112,7 @@ module _ (IsSame : Which → Type 0) where
       then (f n ts) (g m ts) _ _ (h n m ts le) (λ xs. more_keeps (separated f end (n - length xs.value) turns) (separated g end (m - length xs.value) turns) xs.value xs.rest (seen fixed.Comma xs.rest) (λ us.
       separated_keeps S f g h end turns (n - length xs.value) (m - length xs.value) us (less (length xs.value) le)))
 
-  repeated_by_keeps : {X : Type 0} (f g : List X → List Symbol → Outcome (List X)) (ts : List Symbol) (x y : Possible (List X)) → Keeps IsSame x y → ((xs : List X) (us : List Symbol) → Keeps IsSame (f xs us) (g xs us)) → Keeps IsSame (repeated_by f ts x) (repeated_by g ts y)
+  repeated_by_keeps : {X : Type 0} (f g : List X → List Symbol → ReadResult (List X)) (ts : List Symbol) (x y : Possible (List X)) → Keeps IsSame x y → ((xs : List X) (us : List Symbol) → Keeps IsSame (f xs us) (g xs us)) → Keeps IsSame (repeated_by f ts x) (repeated_by g ts y)
   repeated_by_keeps f g ts (Ok None) y k h = ap (repeated_by g ts) k
   repeated_by_keeps f g ts (Ok (Some a)) y k h = subst (λ z. Keeps IsSame (with_front a.value (f a.value a.rest)) (repeated_by g ts z)) (sym k) (front_keeps a.value (f a.value a.rest) (g a.value a.rest) (h a.value a.rest))
   repeated_by_keeps f g ts (Err e) y k h = fault_on e y (repeated_by g ts) (λ e. refl) k
@@ -129,7 +129,7 @@ module _ (IsSame : Which → Type 0) where
   limited : (f : Fault) → Keeps IsSame {X = Read Name} (Err f) (Err f)
   limited f = same_fault (Read Name) f
 
-  stop : (o : Outcome Name) → (IsSame which.Variables → ⊥) → Keeps IsSame (o >>= (λ (x : Read Name). let r : Outcome Name = Err (limit_fault which.Variables x.value.span) in r)) o
+  stop : (o : ReadResult Name) → (IsSame which.Variables → ⊥) → Keeps IsSame (o >>= (λ (x : Read Name). let r : ReadResult Name = Err (limit_fault which.Variables x.value.span) in r)) o
   stop (Ok x) differ = λ s. absurd (differ s)
   stop (Err f) differ = limited f
 
@@ -157,7 +157,7 @@ module _ (IsSame : Which → Type 0) where
   declared_keeps end n m ts le = then (variables_at end n ts) (variables_at end m ts) _ _ (variables_keep end n m ts le) (λ vs. same _)
 
   -- more may be opened
-  opened_by_keeps : {B : Type 0} (p q : ℕ) (o : Outcome Span) (f g : Read ℕ → Result B Fault) → MoreNesting p q
+  opened_by_keeps : {B : Type 0} (p q : ℕ) (o : ReadResult Span) (f g : Read ℕ → Result B Fault) → MoreNesting p q
       → ((a b : ℕ) (r : List Symbol) → MoreNesting a b → Keeps IsSame (f (record { value = a; rest = r })) (g (record { value = b; rest = r }))) → Keeps IsSame (opened_by p o >>= f) (opened_by q o >>= g)
   opened_by_keeps {B} zero zero (Err e) f g le h = same_fault B e
   opened_by_keeps {B} zero (suc q) (Err e) f g le h = same_fault B e
@@ -173,7 +173,7 @@ module _ (IsSame : Which → Type 0) where
   unfolding opened
   opened_keeps end w p q ts f g le h = opened_by_keeps p q (behind end w ts) f g le h
 
-  listed_keeps : {X : Type 0} (end : Span) (f g : List Symbol → Outcome (List X)) (ts : List Symbol) (o : Option (Read Span)) → ((us : List Symbol) → Keeps IsSame (f us) (g us)) → Keeps IsSame (listed_by end f ts o) (listed_by end g ts o)
+  listed_keeps : {X : Type 0} (end : Span) (f g : List Symbol → ReadResult (List X)) (ts : List Symbol) (o : Option (Read Span)) → ((us : List Symbol) → Keeps IsSame (f us) (g us)) → Keeps IsSame (listed_by end f ts o) (listed_by end g ts o)
   listed_keeps end f g ts (Some r) h = refl
   listed_keeps end f g ts None h = then (f ts) (g ts) _ _ (h ts) (λ xs. same _)
 
@@ -209,7 +209,7 @@ module _ (IsSame : Which → Type 0) where
       then (results_at end p (v - length ps.value) ps.rest) (results_at end q (w - length ps.value) ps.rest) _ _ (results_keep end p q (v - length ps.value) (w - length ps.value) ps.rest le (less (length ps.value) few)) (λ rs. refl)))
 
   -- With more room: `f` reads expressions with that of p, and `g` with that of q.
-  module _ (f g : ℕ → List Symbol → Outcome Expression) (end : Span) (grows : (p q : ℕ) (ts : List Symbol) → MoreNesting p q → Keeps IsSame (f p ts) (g q ts)) (p q : ℕ) (le : MoreNesting p q) where
+  module _ (f g : ℕ → List Symbol → ReadResult Expression) (end : Span) (grows : (p q : ℕ) (ts : List Symbol) → MoreNesting p q → Keeps IsSame (f p ts) (g q ts)) (p q : ℕ) (le : MoreNesting p q) where
     expressions_keep : (a b : ℕ) (ts : List Symbol) → MoreNesting a b → Keeps IsSame (expressions_at f end a ts) (expressions_at g end b ts)
     unfolding expressions_at
     expressions_keep a b ts low = separated_keeps ⊥ (expression_item f a) (expression_item g b) (λ n m us h. one_keeps (f a us) (g b us) (grows a b us low)) end (length ts) 0 0 ts no_more
@@ -350,7 +350,7 @@ module _ (IsSame : Which → Type 0) where
     unfolding no_branch
     no_branch_keeps here ts = λ s. refl
 
-    no_branch_then : (here : Span) (ts : List Symbol) (o : Outcome Statement) → (IsSame which.Nesting → ⊥) → Keeps IsSame (no_branch f end p here ts) o
+    no_branch_then : (here : Span) (ts : List Symbol) (o : ReadResult Statement) → (IsSame which.Nesting → ⊥) → Keeps IsSame (no_branch f end p here ts) o
     unfolding no_branch
     no_branch_then here ts o differs = λ s. absurd (differs s)
 
@@ -469,7 +469,7 @@ module _ (IsSame : Which → Type 0) where
         program_keeps n m ts low = then (declarations_at f end p b v n ts) (declarations_at g end q c w m ts) _ _ (declarations_keep n m ts low) (λ ds. same _)
 
   -- an expression is past no limit but that of nesting
-  pub grows_keeps : (x y : Outcome Expression) → IfErr x (IsRefusal IsOfExpressions) → Grows x y → (IsSame which.Nesting → y ≡ x) → Keeps IsSame x y
+  pub grows_keeps : (x y : ReadResult Expression) → IfErr x (IsRefusal IsOfExpressions) → Grows x y → (IsSame which.Nesting → y ≡ x) → Keeps IsSame x y
   grows_keeps (Ok a) y refusal k even = k
   grows_keeps (Err (faults.Syntax line col)) y refusal k even = k
   grows_keeps (Err (faults.Limit which.Literal line col)) y refusal k even = absurd refusal

@@ -11,7 +11,7 @@ use Rattle.boogie_parse.specs.declared.symbols.Fixed.TheVariants as fixed
 use Rattle.boogie_parse.specs.declared.symbols.Sign.{Sign}
 use Rattle.boogie_parse.specs.declared.symbols.Sign.TheVariants as signs
 use Rattle.boogie_parse.specs.declared.symbols.Symbol.{Symbol}
-use Rattle.boogie_parse.specs.Reading.Outcomes.{Read, Outcome}
+use Rattle.boogie_parse.specs.Reading.Outcomes.{Read, ReadResult}
 use Rattle.boogie_parse.specs.Rules.Grammar.{Is}
 use Rattle.boogie_parse.specs.Rules.GrammarLists.{ReadsNames, ReadsDeclared, declared}
 use Rattle.boogie_parse.specs.Rules.GrammarStatements.{ReadsList}
@@ -212,7 +212,7 @@ module _ (p b v : ℕ) where
         procedures = rw (procedures_joined xs ys) (let k : procedures_counted xs + procedures_counted ys ≤ q = omega arith in k);
       }
 
-module _ (reads : ℕ → List Symbol → Outcome Expression) (end : Span) (p b v : ℕ)
+module _ (reads : ℕ → List Symbol → ReadResult Expression) (end : Span) (p b v : ℕ)
     (reads-sound : (p : ℕ) (ts : List Symbol) → IfOk (reads p ts) (λ x. IsExpressionRead p ts x.value x.rest)) where
   requires-plain : (ts : List Symbol) (word : Read Span) → Stands fixed.Requires ts word → IfOk (requires_at reads end p false word) (λ x. IsSpecificationRead p ts x.value x.rest)
   unfolding requires_at

@@ -13,7 +13,7 @@ use Rattle.boogie_parse.specs.contracts.symbols.Fixed.{the_type}
 use Rattle.boogie_parse.specs.declared.symbols.Sign.{Sign}
 use Rattle.boogie_parse.specs.declared.symbols.Sign.TheVariants as signs
 use Rattle.boogie_parse.specs.declared.symbols.Symbol.{Symbol}
-use Rattle.boogie_parse.specs.Reading.Outcomes.{Read, Outcome}
+use Rattle.boogie_parse.specs.Reading.Outcomes.{Read, ReadResult}
 use Rattle.boogie_parse.specs.Rules.Grammar.{Is, symbols_place, Reads}
 use Rattle.boogie_parse.specs.Rules.GrammarLists as lists
 use Rattle.boogie_parse.specs.Rules.GrammarLists.{IsName, ReadsNames, last_name, next_name, ReadsExpressions, ReadsArguments, ReadsInvariants}
@@ -134,27 +134,27 @@ abbrev stands : Statement → List Symbol → Possible Statement
 stands s r = Ok (Some (record { value = s; rest = r }))
 
 -- the statements of a list
-pub record ListIs (x : Block) (r : List Symbol) (o : Outcome (List Statement)) : Type 0 where
+pub record ListIs (x : Block) (r : List Symbol) (o : ReadResult (List Statement)) : Type 0 where
   pub items : List Statement
   pub tree : block items ≡ x
   pub reads : o ≡ read items r
 
 -- what is `if` by the grammar, from behind its word
-record IfIs (branch : Span → List Symbol → Outcome Statement) (ts : List Symbol) (s : Statement) (r : List Symbol) : Type 0 where
+record IfIs (branch : Span → List Symbol → ReadResult Statement) (ts : List Symbol) (s : Statement) (r : List Symbol) : Type 0 where
   symbol : Symbol
   rest : List Symbol
   is : Is symbol fixed.If
   all : ts ≡ symbol ∷ rest
   reads : branch symbol.span rest ≡ read s r
 
-module _ (reads : ℕ → List Symbol → Outcome Expression) (end : Span) (IsSo : Expression → Type 0)
+module _ (reads : ℕ → List Symbol → ReadResult Expression) (end : Span) (IsSo : Expression → Type 0)
     (reads-complete : (p : ℕ) (ts : List Symbol) (e : Expression) (r : List Symbol) → Reads p Equivalence ts e r → IsSo e → Ends Equivalence r → reads p ts ≡ read e r) (p : ℕ) where
   -- no statement begins with a closing brace
   pub closing-stops : (inside : Inside) (v : Symbol) (r : List Symbol) → Is v fixed.CloseBrace → statement_at reads end p inside (v ∷ r) ≡ Ok None
   unfolding statement_at
   closing-stops inside v r is = rw is refl
 
-  named-statement : (inside : Inside) (n : Symbol) (ts : List Symbol) (x : Name) (o : Outcome Statement) → IsName n x → named_at reads end p x (n ∷ ts) ts ≡ o → statement_at reads end p inside (n ∷ ts) ≡ there o
+  named-statement : (inside : Inside) (n : Symbol) (ts : List Symbol) (x : Name) (o : ReadResult Statement) → IsName n x → named_at reads end p x (n ∷ ts) ts ≡ o → statement_at reads end p inside (n ∷ ts) ≡ there o
   unfolding statement_at
   named-statement inside n ts x o is e =
       let name : x ≡ record { span = n.span; text = x.text } = ap (λ (w : Span). let y : Name = record { span = w; text = x.text } in y) (sym is.span) in
@@ -165,13 +165,13 @@ module _ (reads : ℕ → List Symbol → Outcome Expression) (end : Span) (IsSo
   unfolding named_at
   label-it inside n u r x is colon = named-statement inside n (u ∷ r) x (read (Label x) r) is (rw (seen-it fixed.Colon u r colon) refl)
 
-  assign-here : (inside : Inside) (n : Symbol) (ts : List Symbol) (x : Name) (o : Outcome Statement) → IsName n x → seen fixed.Colon ts ≡ None → assign_at reads end p n.span (n ∷ ts) ≡ o → statement_at reads end p inside (n ∷ ts) ≡ there o
+  assign-here : (inside : Inside) (n : Symbol) (ts : List Symbol) (x : Name) (o : ReadResult Statement) → IsName n x → seen fixed.Colon ts ≡ None → assign_at reads end p n.span (n ∷ ts) ≡ o → statement_at reads end p inside (n ∷ ts) ≡ there o
   unfolding named_at
   assign-here inside n ts x o is none e =
       let placed : assign_at reads end p x.span (n ∷ ts) ≡ o = subst (λ (w : Span). assign_at reads end p w (n ∷ ts) ≡ o) is.span e in
       named-statement inside n ts x o is (rw none placed)
 
-  assign-it : (inside : Inside) (ts : List Symbol) (o : Outcome Statement) → NamedStart fixed.Colon ts → assign_at reads end p (symbols_place ts) ts ≡ o → statement_at reads end p inside ts ≡ there o
+  assign-it : (inside : Inside) (ts : List Symbol) (o : ReadResult Statement) → NamedStart fixed.Colon ts → assign_at reads end p (symbols_place ts) ts ≡ o → statement_at reads end p inside ts ≡ there o
   assign-it inside ts o w =
       subst (λ us. assign_at reads end p (symbols_place us) us ≡ o → statement_at reads end p inside us ≡ there o) (sym w.all) (assign-here inside w.symbol w.rest w.name o w.is w.none)
 
@@ -202,7 +202,7 @@ module _ (reads : ℕ → List Symbol → Outcome Expression) (end : Span) (IsSo
   into-it here ts m r xs c n u f es names ic is d iu shallow =
       rw (all_names-complete end ts xs (c ∷ n ∷ m) names (seen-other fixed.Comma fixed.Becomes c (n ∷ m) ic refl), behind-it end fixed.Becomes c (n ∷ m) ic, name-it end n m f is) (called here xs f m r u es d iu shallow)
 
-  call-into-it : (here : Span) (ts : List Symbol) (o : Outcome Statement) → NamedStart fixed.OpenParenthesis ts → call_into reads end p here ts ≡ o → call_at reads end p here ts ≡ o
+  call-into-it : (here : Span) (ts : List Symbol) (o : ReadResult Statement) → NamedStart fixed.OpenParenthesis ts → call_into reads end p here ts ≡ o → call_at reads end p here ts ≡ o
   unfolding call_at
   call-into-it here ts o w e = let name : name_at end ts ≡ read w.name w.rest = rw w.all (name-it end w.symbol w.rest w.name w.is) in rw (name, w.none) e
 

@@ -8,7 +8,7 @@ use Rattle.boogie_parse.specs.declared.symbols.Fixed.TheVariants as fixed
 use Rattle.boogie_parse.specs.declared.symbols.Sign.{Sign}
 use Rattle.boogie_parse.specs.declared.symbols.Sign.TheVariants as signs
 use Rattle.boogie_parse.specs.declared.symbols.Symbol.{Symbol}
-use Rattle.boogie_parse.specs.Reading.Outcomes.{Read, Outcome}
+use Rattle.boogie_parse.specs.Reading.Outcomes.{Read, ReadResult}
 use Rattle.boogie_parse.specs.Rules.Grammar.{Is, symbols_place}
 use Rattle.boogie_parse.specs.Rules.GrammarLists.{ReadsNames}
 use Rattle.boogie_parse.specs.Rules.GrammarStatements as grammar
@@ -50,7 +50,7 @@ data Other (p b : ℕ) (ts : List Symbol) (x : Read Block) : Type 0 where
   a_block : IsBlockRead p b ts x.value x.rest → Other p b ts x
   a_branch : (a : ℕ) (s : Statement) → b ≡ suc a → x.value ≡ Then s Empty → IsIfRead p a ts s x.rest → Other p b ts x
 
-module _ (reads : ℕ → List Symbol → Outcome Expression) (end : Span) (p : ℕ)
+module _ (reads : ℕ → List Symbol → ReadResult Expression) (end : Span) (p : ℕ)
     (reads-sound : (p : ℕ) (ts : List Symbol) → IfOk (reads p ts) (λ x. IsExpressionRead p ts x.value x.rest)) where
   assert-sound : (b : ℕ) (t : Symbol) (ts : List Symbol) → Is t fixed.Assert → IfOk (assert_at reads end p t.span ts) (λ x. IsStatementRead p b (t ∷ ts) x.value x.rest)
   unfolding assert_at

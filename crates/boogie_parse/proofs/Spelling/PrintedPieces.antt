@@ -16,7 +16,7 @@ use Rattle.boogie_parse.specs.Lexing.Bytes.{is_blank}
 use Rattle.boogie_parse.specs.Lexing.Places.{behind_byte, behind}
 use Rattle.boogie_parse.specs.Lexing.Pieces.{Shape, Lexeme, Quoted, RealLiteral, LargeLiteral, Stray, Skipped, Found, Piece, pieces_from}
 use Rattle.boogie_parse.specs.Lexing.Attributes.{is_mark, is_mark_shape, opens_brace, begins_attribute}
-use Rattle.boogie_parse.specs.Lexing.Lexed.{left_out, beside, supported, found_in, with_token}
+use Rattle.boogie_parse.specs.Lexing.Lexed.{left_out, beside_text, supported, found_in, with_token}
 use Rattle.boogie_parse.specs.Lexing.Symbols.{spellings, sign_of, symbol}
 use Rattle.boogie_parse.specs.Ties.Turns.{front_of}
 use Rattle.boogie_parse.proofs.Lexing.PieceTurns.{pieces_at}
@@ -93,7 +93,7 @@ first_piece kind w rest here is =
     pieces_at (Found (Lexeme kind) (length w)) here (w ++ rest) is ∙ rw (take-append_seam w rest, drop-append_seam w rest) refl
 
 -- behind a token that is no opening brace every text may stand
-module _ (kind : TokenKind) (w rest : List ℕ) (ss : List Sign) (is : Some (Found (Lexeme kind) (length w)) ≡ front_of (w ++ rest)) (supports : beside w left_out ≡ None) where
+module _ (kind : TokenKind) (w rest : List ℕ) (ss : List Sign) (is : Some (Found (Lexeme kind) (length w)) ≡ front_of (w ++ rest)) (supports : beside_text w left_out ≡ None) where
   by_attribute : (here : Span) (ts : List Token) → read (pieces_from 0 (behind w here) rest) ≡ Ok ts →
       begins_attribute (record { span = here; shape = Lexeme kind; text = w }) (pieces_from 0 (behind w here) rest) ≡ false →
       read (pieces_from 0 here (w ++ rest)) ≡ Ok ((record { span = here; kind = kind; text = w }) ∷ ts)

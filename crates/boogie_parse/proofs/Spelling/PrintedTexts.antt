@@ -17,9 +17,9 @@ use Rattle.boogie_parse.specs.declared.symbols.Fixed.TheVariants as fixed
 use Rattle.boogie_parse.specs.declared.symbols.Sign.{Sign}
 use Rattle.boogie_parse.specs.declared.symbols.Sign.TheVariants as signs
 use Rattle.boogie_parse.specs.Lexing.Bytes.{is_blank}
-use Rattle.boogie_parse.specs.Lexing.Tokens.{run, begins_with, makes_real}
+use Rattle.boogie_parse.specs.Lexing.Tokens.{passing_length, begins_with, makes_real}
 use Rattle.boogie_parse.specs.Lexing.Pieces.{Found, Lexeme, literal_front}
-use Rattle.boogie_parse.specs.Lexing.Lexed.{left_out, beside}
+use Rattle.boogie_parse.specs.Lexing.Lexed.{left_out, beside_text}
 use Rattle.boogie_parse.specs.Lexing.Symbols.{spellings, sign_of}
 use Rattle.boogie_parse.specs.Ties.Turns.{front_of}
 use Rattle.boogie_parse.specs.Spelling.PrintedTokens.{begins_word, IsFreeWord}
@@ -77,7 +77,7 @@ blank b is = record { go = λ rest more r. blank_before b rest more is r }
 
 -- ---- words
 
-run_all : (p : ℕ → Bool) (w rest : List ℕ) → list_all p w ≡ true → begins_with p rest ≡ false → length w ≡ run p (w ++ rest)
+run_all : (p : ℕ → Bool) (w rest : List ℕ) → list_all p w ≡ true → begins_with p rest ≡ false → length w ≡ passing_length p (w ++ rest)
 run_all p [] [] all ends = refl
 run_all p [] (b ∷ r) all ends = rw ends refl
 run_all p (b ∷ w) rest all ends =
@@ -103,14 +103,14 @@ word_front (b ∷ w) rest begins all ends =
 pub record IsWord (w : List ℕ) (s : Sign) : Type 0 where
   pub begins : begins_word w ≡ true
   pub bytes : list_all is_name_byte w ≡ true
-  pub supported : beside w left_out ≡ None
+  pub supported : beside_text w left_out ≡ None
   pub means : sign_of kinds.Word w ≡ s
   pub plain : is_colon s ≡ false
 
 pub name_word : {w : List ℕ} → IsFreeWord w → IsWord w (signs.Name w)
 name_word {w} n = record { begins = n.begins; bytes = n.bytes; supported = n.supported; means = n.free; plain = refl }
 
-pub keyword : (w : List ℕ) → begins_word w ≡ true → list_all is_name_byte w ≡ true → beside w left_out ≡ None → is_colon (sign_of kinds.Word w) ≡ false → IsWord w (sign_of kinds.Word w)
+pub keyword : (w : List ℕ) → begins_word w ≡ true → list_all is_name_byte w ≡ true → beside_text w left_out ≡ None → is_colon (sign_of kinds.Word w) ≡ false → IsWord w (sign_of kinds.Word w)
 keyword w begins bytes supported plain = record { begins = begins; bytes = bytes; supported = supported; means = refl; plain = plain }
 
 pub word_read : {w : List ℕ} {s : Sign} → IsWord w s → (rest : List ℕ) (more : List Sign) → Ends rest → IsRead rest more → IsRead (w ++ rest) (s ∷ more)
@@ -176,18 +176,18 @@ literal_first (b ∷ w) rest some all small ends =
     (literal_is (b ∷ w) rest small ends ∙ ap (λ n. literal_front n (b ∷ (w ++ rest))) (run_all is_digit (b ∷ w) rest all (ends_digits rest ends)))
 
 -- no digits stand in a table of texts of which none begins with a digit
-no_row : (w : List ℕ) → begins_with is_digit w ≡ true → (rows : List (List ℕ × What)) → list_all (λ (row : List ℕ × What). not (begins_with is_digit row.0)) rows ≡ true → beside w rows ≡ None
+no_row : (w : List ℕ) → begins_with is_digit w ≡ true → (rows : List (List ℕ × What)) → list_all (λ (row : List ℕ × What). not (begins_with is_digit row.0)) rows ≡ true → beside_text w rows ≡ None
 no_row w digit [] none = refl
 no_row w digit (row ∷ rows) none =
     let parts = and_parts (not (begins_with is_digit row.0)) (list_all (λ (row : List ℕ × What). not (begins_with is_digit row.0)) rows) none in
     let other : begins_with is_digit row.0 ≡ false = not-true (begins_with is_digit row.0) parts.0 in
     by_case (bytes_eq w row.0) refl other (no_row w digit rows parts.1)
   where
-    by_case : (t : Bool) → bytes_eq w row.0 ≡ t → begins_with is_digit row.0 ≡ false → beside w rows ≡ None → (if t then Some row.1 else beside w rows) ≡ None
+    by_case : (t : Bool) → bytes_eq w row.0 ≡ t → begins_with is_digit row.0 ≡ false → beside_text w rows ≡ None → (if t then Some row.1 else beside_text w rows) ≡ None
     by_case false is other more = more
     by_case true is other more = absurd (false≢true (sym other ∙ ap (begins_with is_digit) (sym ((bytes_eq-Decides w row.0).0 is)) ∙ digit))
 
-no_part : (w : List ℕ) → 0 < length w → list_all is_digit w ≡ true → beside w left_out ≡ None
+no_part : (w : List ℕ) → 0 < length w → list_all is_digit w ≡ true → beside_text w left_out ≡ None
 unfolding left_out
 no_part [] some all = absurd (omega arith)
 no_part (b ∷ w) some all = no_row (b ∷ w) (and_parts (is_digit b) (list_all is_digit w) all).0 left_out refl
@@ -221,16 +221,16 @@ decimal_digits n small =
 
 -- ---- marks
 
-pub mark_read : (m rest : List ℕ) (more : List Sign) → Some (Found (Lexeme kinds.Mark) (length m)) ≡ front_of (m ++ rest) → beside m left_out ≡ None →
+pub mark_read : (m rest : List ℕ) (more : List Sign) → Some (Found (Lexeme kinds.Mark) (length m)) ≡ front_of (m ++ rest) → beside_text m left_out ≡ None →
     is_colon (sign_of kinds.Mark m) ≡ false → IsRead rest more → IsRead (m ++ rest) (sign_of kinds.Mark m ∷ more)
 mark_read m rest more is supports plain r = record { has = token_first kinds.Mark m rest more is supports r; plain = plain }
 
-pub mark : (m : List ℕ) → ((rest : List ℕ) → Some (Found (Lexeme kinds.Mark) (length m)) ≡ front_of (m ++ rest)) → beside m left_out ≡ None →
+pub mark : (m : List ℕ) → ((rest : List ℕ) → Some (Found (Lexeme kinds.Mark) (length m)) ≡ front_of (m ++ rest)) → beside_text m left_out ≡ None →
     is_colon (sign_of kinds.Mark m) ≡ false → Tells m (sign_of kinds.Mark m ∷ [])
 mark m is supports plain = record { go = λ rest more r. mark_read m rest more (is rest) supports plain r }
 
 -- a mark and a space
-pub mark_space : (m : List ℕ) → ((rest : List ℕ) → Some (Found (Lexeme kinds.Mark) (length m)) ≡ front_of (m ++ 32 ∷ rest)) → beside m left_out ≡ None →
+pub mark_space : (m : List ℕ) → ((rest : List ℕ) → Some (Found (Lexeme kinds.Mark) (length m)) ≡ front_of (m ++ 32 ∷ rest)) → beside_text m left_out ≡ None →
     is_colon (sign_of kinds.Mark m) ≡ false → Tells (m ++ 32 ∷ []) (sign_of kinds.Mark m ∷ [])
 mark_space m is supports plain = record {
   go = λ rest more r. rw (append_assoc m (32 ∷ []) rest) (mark_read m (32 ∷ rest) more (is rest) supports plain (blank_before 32 rest more refl r));

@@ -14,18 +14,18 @@ use Rattle.boogie_parse.specs.declared.symbols.Fixed.{Fixed}
 use Rattle.boogie_parse.specs.Lexing.Bytes.{is_blank}
 use Rattle.boogie_tree.specs.Names.{is_digit, is_name_byte}
 use Rattle.boogie_tree.specs.Places.{beginning}
-use Rattle.boogie_parse.specs.Lexing.Tokens.{run, marks, makes_real}
+use Rattle.boogie_parse.specs.Lexing.Tokens.{passing_length, marks, makes_real}
 use Rattle.boogie_parse.specs.Lexing.Places.{behind_byte}
 use Rattle.boogie_parse.specs.Lexing.Pieces.{Shape, Lexeme, Quoted, RealLiteral, LargeLiteral, Stray, Front, Skipped, Found, comment_length, string_length, is_in_line, literal_front, comment_front, string_front, mark_front, front, Piece, more_bytes, with_piece, pieces_from}
 use Rattle.boogie_parse.specs.Lexing.Attributes.{begins_attribute, braced_length}
-use Rattle.boogie_parse.specs.Lexing.Lexed.{left_out, beside, supported, judged, inside_attribute, attribute, found_in, with_token, tokens_or_fault, lexed}
+use Rattle.boogie_parse.specs.Lexing.Lexed.{left_out, beside_text, supported, judged, inside_attribute, attribute, found_in, with_token, tokens_or_fault, lexed}
 use Rattle.boogie_parse.specs.Lexing.Symbols.{spellings, spelled, fixed_or_name, sign_of, symbol}
 use Rattle.boogie_parse.specs.Spelling.PrintedTokens.{begins_word}
 use Rattle.boogie_parse.proofs.Spelling.SpellableTrees.{IsSpellableSign, AreSpellableSymbols}
 
 -- the text is in the table of fixed words and marks, or in that of what is left out
 abbrev is_known : List ℕ → Bool
-is_known w = is_some (spelled w spellings) || is_some (beside w left_out)
+is_known w = is_some (spelled w spellings) || is_some (beside_text w left_out)
 
 -- what the bytes of a piece are, by what it is
 abbrev Fits : Shape → List ℕ → Type 0
@@ -43,21 +43,21 @@ FrontFits text (Found shape n) = Fits shape (take n text)
 
 -- ---- what a text begins with
 
-run_passes : (p : ℕ → Bool) (bs : List ℕ) → list_all p (take (run p bs) bs) ≡ true
+run_passes : (p : ℕ → Bool) (bs : List ℕ) → list_all p (take (passing_length p bs) bs) ≡ true
 run_passes p [] = refl
 run_passes p (b ∷ bs) =
-    cond_both (p b) (suc (run p bs)) 0 (λ n. list_all p (take n (b ∷ bs)) ≡ true) (λ passes. and_from (p b) (list_all p (take (run p bs) bs)) passes (run_passes p bs)) (λ _. refl)
+    cond_both (p b) (suc (passing_length p bs)) 0 (λ n. list_all p (take n (b ∷ bs)) ≡ true) (λ passes. and_from (p b) (list_all p (take (passing_length p bs) bs)) passes (run_passes p bs)) (λ _. refl)
 
-word_begins : (b : ℕ) (r : List ℕ) → is_digit b ≡ false → is_name_byte b ≡ true → begins_word (take (run is_name_byte (b ∷ r)) (b ∷ r)) ≡ true
+word_begins : (b : ℕ) (r : List ℕ) → is_digit b ≡ false → is_name_byte b ≡ true → begins_word (take (passing_length is_name_byte (b ∷ r)) (b ∷ r)) ≡ true
 word_begins b r digit name =
-    cond_both (is_name_byte b) (suc (run is_name_byte r)) 0 (λ n. begins_word (take n (b ∷ r)) ≡ true) (λ _. not_from_false (is_digit b) digit)
+    cond_both (is_name_byte b) (suc (passing_length is_name_byte r)) 0 (λ n. begins_word (take n (b ∷ r)) ≡ true) (λ _. not_from_false (is_digit b) digit)
     (λ other. absurd (false≢true (sym other ∙ name)))
 
-literal_fits : (b : ℕ) (r : List ℕ) → FrontFits (b ∷ r) (literal_front (run is_digit (b ∷ r)) (b ∷ r))
+literal_fits : (b : ℕ) (r : List ℕ) → FrontFits (b ∷ r) (literal_front (passing_length is_digit (b ∷ r)) (b ∷ r))
 literal_fits b r =
     let P : Front → Type 0 = FrontFits (b ∷ r) in
-    cond_both (nat_lt (digits_value 10 (take (run is_digit (b ∷ r)) (b ∷ r))) (2 ^ 127)) _ _ P
-    (λ small. cond_both (makes_real (drop (run is_digit (b ∷ r)) (b ∷ r))) _ _ P (λ _. tt) (λ _. ltb-true (digits_value 10 (take (run is_digit (b ∷ r)) (b ∷ r))) (2 ^ 127) small))
+    cond_both (nat_lt (digits_value 10 (take (passing_length is_digit (b ∷ r)) (b ∷ r))) (2 ^ 127)) _ _ P
+    (λ small. cond_both (makes_real (drop (passing_length is_digit (b ∷ r)) (b ∷ r))) _ _ P (λ _. tt) (λ _. ltb-true (digits_value 10 (take (passing_length is_digit (b ∷ r)) (b ∷ r))) (2 ^ 127) small))
     (λ _. tt)
 
 string_fits : (text : List ℕ) (n : ℕ) (o : Option ℕ) → FrontFits text (string_front n o)
@@ -87,7 +87,7 @@ front_fits b r =
     cond_both (is_blank b) _ _ P (λ _. tt)
     (λ _. cond_both (is_digit b) _ _ P (λ _. literal_fits b r)
     (λ digit. cond_both (is_name_byte b) _ _ P (λ name. (word_begins b r digit name, run_passes is_name_byte (b ∷ r)))
-    (λ _. cond_both (nat_eq b 34) _ _ P (λ _. string_fits (b ∷ r) (run is_in_line r) (string_length 34 r))
+    (λ _. cond_both (nat_eq b 34) _ _ P (λ _. string_fits (b ∷ r) (passing_length is_in_line r) (string_length 34 r))
     (λ _. cond_both (starts_with nat_eq (b ∷ r) (codes "//")) _ _ P (λ _. tt)
     (λ _. cond_both (starts_with nat_eq (b ∷ r) (codes "/*")) _ _ P (λ _. comment_fits (b ∷ r) (length (b ∷ r)) (comment_length 0 (drop 1 r)))
     (λ _. mark_fits (b ∷ r) marks marks_known))))))
@@ -110,7 +110,7 @@ pieces_fit zero here (b ∷ r) =
 
 -- ---- tokens
 
-word_spellable : (w : List ℕ) → begins_word w ≡ true → list_all is_name_byte w ≡ true → beside w left_out ≡ None → (o : Option Fixed) → spelled w spellings ≡ o → IsSpellableSign (fixed_or_name w o)
+word_spellable : (w : List ℕ) → begins_word w ≡ true → list_all is_name_byte w ≡ true → beside_text w left_out ≡ None → (o : Option Fixed) → spelled w spellings ≡ o → IsSpellableSign (fixed_or_name w o)
 word_spellable w begins bytes supports (Some f) e = tt
 word_spellable w begins bytes supports None e = record { begins = begins; bytes = bytes; free = ap (fixed_or_name w) e; supported = supports }
 
@@ -119,10 +119,10 @@ mark_spellable w (Some f) q known none = tt
 mark_spellable w None None known none = absurd (false≢true known)
 mark_spellable w None (Some x) known none = absurd (false≢true (ap is_some (sym none)))
 
-sign_spellable : (kind : TokenKind) (w : List ℕ) → Fits (Lexeme kind) w → beside w left_out ≡ None → IsSpellableSign (sign_of kind w)
+sign_spellable : (kind : TokenKind) (w : List ℕ) → Fits (Lexeme kind) w → beside_text w left_out ≡ None → IsSpellableSign (sign_of kind w)
 sign_spellable kinds.Word w h supports = word_spellable w h.0 h.1 supports (spelled w spellings) refl
 sign_spellable kinds.Literal w h supports = h
-sign_spellable kinds.Mark w h supports = mark_spellable w (spelled w spellings) (beside w left_out) h supports
+sign_spellable kinds.Mark w h supports = mark_spellable w (spelled w spellings) (beside_text w left_out) h supports
 
 abbrev AreSpellableTokens : List Token → Type 0
 AreSpellableTokens ts = AllByRecursion (λ (t : Token). IsSpellableSign (symbol t).sign) ts
@@ -142,13 +142,13 @@ token_found t (Err f) ts h more e = absurd (no_tokens e)
 token_found t (Ok us) ts h more e = subst AreSpellableTokens (ok_same e) (h, more us refl)
 
 supported_found : (here : Span) (kind : TokenKind) (w : List ℕ) (found : List (Result Token Fault)) → Fits (Lexeme kind) w → FoundSpellable found →
-    (o : Option What) → beside w left_out ≡ o → FoundSpellable (supported here kind w o ∷ found)
+    (o : Option What) → beside_text w left_out ≡ o → FoundSpellable (supported here kind w o ∷ found)
 supported_found here kind w found h more None e ts is =
     token_found (record { span = here; kind = kind; text = w }) (tokens_or_fault found) ts (sign_spellable kind w h e) more is
 supported_found here kind w found h more (Some what) e ts is = absurd (no_tokens is)
 
 judged_found : (here : Span) (w : List ℕ) (shape : Shape) (found : List (Result Token Fault)) → Fits shape w → FoundSpellable found → FoundSpellable (judged here w shape ∷ found)
-judged_found here w (Lexeme kind) found h more ts is = supported_found here kind w found h more (beside w left_out) refl ts is
+judged_found here w (Lexeme kind) found h more ts is = supported_found here kind w found h more (beside_text w left_out) refl ts is
 judged_found here w Quoted found h more ts is = absurd (no_tokens is)
 judged_found here w RealLiteral found h more ts is = absurd (no_tokens is)
 judged_found here w LargeLiteral found h more ts is = absurd (no_tokens is)

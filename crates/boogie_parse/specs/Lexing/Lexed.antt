@@ -25,9 +25,9 @@ left_out =
     ∷ (codes "real", parts.Real) ∷ []
 
 -- what stands in the table beside a text
-abbrev pub beside : List ℕ → List (List ℕ × What) → Option What
-beside text [] = None
-beside text (row ∷ rows) = if bytes_eq text row.0 then Some row.1 else beside text rows
+abbrev pub beside_text : List ℕ → List (List ℕ × What) → Option What
+beside_text text [] = None
+beside_text text (row ∷ rows) = if bytes_eq text row.0 then Some row.1 else beside_text text rows
 
 abbrev pub syntax_at : Span → Fault
 syntax_at here = faults.Syntax here.line here.col
@@ -39,7 +39,7 @@ supported here kind text (Some what) = Err (faults.Unsupported what here.line he
 
 -- what a piece outside attributes is: a token or a fault
 abbrev pub judged : Span → List ℕ → Shape → Result Token Fault
-judged here text (Lexeme kind) = supported here kind text (beside text left_out)
+judged here text (Lexeme kind) = supported here kind text (beside_text text left_out)
 judged here text Quoted = Err (syntax_at here)
 judged here text RealLiteral = Err (faults.Unsupported parts.Real here.line here.col)
 judged here text LargeLiteral = Err (faults.Limit limits.Literal here.line here.col)

@@ -8,7 +8,7 @@ use Rattle.boogie_parse.specs.declared.token.TokenKind.TheVariants as kinds
 use Rattle.boogie_parse.specs.Lexing.Bytes.{is_blank}
 use Rattle.boogie_tree.specs.Names.{is_digit, is_name_byte}
 use Rattle.boogie_tree.specs.Places.{beginning}
-use Rattle.boogie_parse.specs.Lexing.Tokens.{run, marks, makes_real}
+use Rattle.boogie_parse.specs.Lexing.Tokens.{passing_length, marks, makes_real}
 use Rattle.boogie_parse.specs.Lexing.Places.{behind_byte}
 
 -- what a piece is
@@ -81,10 +81,10 @@ mark_front (Some m) = Found (Lexeme kinds.Mark) (length m)
 unfoldable pub front : ℕ → List ℕ → Front
 front b r =
     if is_blank b then Skipped 1
-    else (if is_digit b then literal_front (run is_digit (b ∷ r)) (b ∷ r)
-    else (if is_name_byte b then Found (Lexeme kinds.Word) (run is_name_byte (b ∷ r))
-    else (if b == 34 then string_front (run is_in_line r) (string_length 34 r)
-    else (if starts_with nat_eq (b ∷ r) (codes "//") then Skipped (run is_in_line (b ∷ r))
+    else (if is_digit b then literal_front (passing_length is_digit (b ∷ r)) (b ∷ r)
+    else (if is_name_byte b then Found (Lexeme kinds.Word) (passing_length is_name_byte (b ∷ r))
+    else (if b == 34 then string_front (passing_length is_in_line r) (string_length 34 r)
+    else (if starts_with nat_eq (b ∷ r) (codes "//") then Skipped (passing_length is_in_line (b ∷ r))
     else (if starts_with nat_eq (b ∷ r) (codes "/*") then comment_front (length (b ∷ r)) (comment_length 0 (drop 1 r))
     else mark_front (find (λ m. starts_with nat_eq (b ∷ r) m) marks))))))
 

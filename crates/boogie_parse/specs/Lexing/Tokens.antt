@@ -15,9 +15,9 @@ marks =
     ∷ codes "*" ∷ codes "+" ∷ codes "-" ∷ codes "/" ∷ codes "%" ∷ codes "!" ∷ codes "<" ∷ codes ">" ∷ []
 
 -- how many bytes at the front pass
-abbrev pub run : (ℕ → Bool) → List ℕ → ℕ
-run passes [] = 0
-run passes (b ∷ bs) = if passes b then suc (run passes bs) else 0
+abbrev pub passing_length : (ℕ → Bool) → List ℕ → ℕ
+passing_length passes [] = 0
+passing_length passes (b ∷ bs) = if passes b then suc (passing_length passes bs) else 0
 
 abbrev pub begins_with : (ℕ → Bool) → List ℕ → Bool
 begins_with passes [] = false

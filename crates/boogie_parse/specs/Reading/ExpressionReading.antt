@@ -19,21 +19,21 @@ use Rattle.boogie_parse.specs.declared.grammar.expressions.operators.Prefix.{Pre
 use Rattle.boogie_parse.specs.declared.grammar.expressions.operators.Prefix.TheVariants as prefixes
 use Rattle.boogie_parse.specs.Rules.Grammar.{links, compares}
 use Rattle.boogie_parse.specs.Rules.GrammarLimits.{depth}
-use Rattle.boogie_parse.specs.Reading.Outcomes.{Outcome, place_or, syntax_fault, limit_fault, refused, and_then}
+use Rattle.boogie_parse.specs.Reading.Outcomes.{ReadResult, place_or, syntax_fault, limit_fault, refused, and_then}
 
 abbrev pub Reader : Type 0
-Reader = ℕ → List Symbol → Outcome Expression
+Reader = ℕ → List Symbol → ReadResult Expression
 
 -- an expression, and what is behind it
-abbrev pub done : Expression → List Symbol → Outcome Expression
+abbrev pub done : Expression → List Symbol → ReadResult Expression
 done e r = Ok (record { value = e; rest = r })
 
 -- one more would be too deep
-abbrev pub too_deep : Span → Outcome Expression
+abbrev pub too_deep : Span → ReadResult Expression
 too_deep here = Err (limit_fault Nesting here)
 
 -- one more is too deep where the test says so
-abbrev pub unless_deep : Bool → Span → Outcome Expression → Outcome Expression
+abbrev pub unless_deep : Bool → Span → ReadResult Expression → ReadResult Expression
 unless_deep true here go = too_deep here
 unless_deep false here go = go
 
@@ -61,13 +61,13 @@ infix_at level [] = None
 infix_at level (t ∷ ts) = infix_of t.span ts (sign_joins level t.sign)
 
 -- The expression stands alone where no operator follows; else `go` reads on from the operator.
-abbrev pub followed : Expression → List Symbol → (Op → Span → List Symbol → Outcome Expression) → Option Infix → Outcome Expression
-followed a r go None = done a r
-followed a r go (Some x) = go x.0 x.1 x.2
+abbrev pub unless_alone : Expression → List Symbol → (Op → Span → List Symbol → ReadResult Expression) → Option Infix → ReadResult Expression
+unless_alone a r go None = done a r
+unless_alone a r go (Some x) = go x.0 x.1 x.2
 
 -- the operation whose right operand is read
-abbrev pub operation : Span → Op → Expression → Outcome Expression → Outcome Expression
-operation here o a right = and_then right (λ b r. done (Bin here o a b) r)
+abbrev pub binary_operation : Span → Op → Expression → ReadResult Expression → ReadResult Expression
+binary_operation here o a right = and_then right (λ b r. done (Bin here o a b) r)
 
 -- the levels of the chains
 abbrev pub level_of_chain : Chain → Level
@@ -78,17 +78,17 @@ level_of_chain chains.Sum = Sum
 level_of_chain chains.Product = Product
 
 -- One more operation of a chain that begins at that place, where d is allowed; `next` reads on from it.
-abbrev pub linked : Reader → Span → ℕ → (Expression → List Symbol → Outcome Expression) → Expression → Op → Span → List Symbol → Outcome Expression
+abbrev pub linked : Reader → Span → ℕ → (Expression → List Symbol → ReadResult Expression) → Expression → Op → Span → List Symbol → ReadResult Expression
 linked operand here d next a o at m = unless_deep (nat_le d (depth a)) at (and_then (operand (d - 1) m) (λ b r. next (Bin here o a b) r))
 
 -- A chain, read on from its first operands, with k more at most: to the left.
-unfoldable pub chain : Chain → Reader → Span → ℕ → ℕ → Expression → List Symbol → Outcome Expression
-chain c operand here d zero a r = followed a r (λ o at m. too_deep at) (infix_at (level_of_chain c) r)
-chain c operand here d (suc k) a r = followed a r (linked operand here d (chain c operand here d k) a) (infix_at (level_of_chain c) r)
+unfoldable pub chain_behind : Chain → Reader → Span → ℕ → ℕ → Expression → List Symbol → ReadResult Expression
+chain_behind c operand here d zero a r = unless_alone a r (λ o at m. too_deep at) (infix_at (level_of_chain c) r)
+chain_behind c operand here d (suc k) a r = unless_alone a r (linked operand here d (chain_behind c operand here d k) a) (infix_at (level_of_chain c) r)
 
 -- a whole chain
 abbrev pub chained : Span → Chain → Reader → Reader
-chained end c operand d ts = and_then (operand d ts) (chain c operand (place_or end ts) d d)
+chained end c operand d ts = and_then (operand d ts) (chain_behind c operand (place_or end ts) d d)
 
 -- `(`
 abbrev pub opens : Sign → Bool
@@ -105,18 +105,18 @@ behind_if true ts = Some ts
 behind_if false ts = None
 
 -- what is behind the first symbol, where that is such a one
-abbrev pub after : (Sign → Bool) → List Symbol → Option (List Symbol)
-after test [] = None
-after test (t ∷ ts) = behind_if (test t.sign) ts
+abbrev pub behind_sign : (Sign → Bool) → List Symbol → Option (List Symbol)
+behind_sign test [] = None
+behind_sign test (t ∷ ts) = behind_if (test t.sign) ts
 
 -- what must stand there; `go` reads on from behind it
-abbrev pub expected : Span → List Symbol → (List Symbol → Outcome Expression) → Option (List Symbol) → Outcome Expression
+abbrev pub expected : Span → List Symbol → (List Symbol → ReadResult Expression) → Option (List Symbol) → ReadResult Expression
 expected end ts go None = refused end ts
 expected end ts go (Some m) = go m
 
 -- the closing parenthesis
-abbrev pub closed : Span → Expression → List Symbol → Outcome Expression
-closed end e r = expected end r (done e) (after closes r)
+abbrev pub closed : Span → Expression → List Symbol → ReadResult Expression
+closed end e r = expected end r (done e) (behind_sign closes r)
 
 -- `!` and unary `-`
 abbrev pub prefix_of : Sign → Option Prefix
@@ -136,26 +136,26 @@ abbrev pub prefixed : Prefix → Span → Expression → Expression
 prefixed prefixes.Not here e = Not here e
 prefixed prefixes.Neg here e = Neg here e
 
-abbrev pub over : Prefix → Span → Outcome Expression → Outcome Expression
+abbrev pub over : Prefix → Span → ReadResult Expression → ReadResult Expression
 over o here x = and_then x (λ e r. done (prefixed o here e) r)
 
-abbrev pub signed : Outcome Expression → (Prefix → Span → List Symbol → Outcome Expression) → Option (Prefix × Span × List Symbol) → Outcome Expression
-signed plain go None = plain
-signed plain go (Some x) = go x.0 x.1 x.2
+abbrev pub if_prefixed : ReadResult Expression → (Prefix → Span → List Symbol → ReadResult Expression) → Option (Prefix × Span × List Symbol) → ReadResult Expression
+if_prefixed plain go None = plain
+if_prefixed plain go (Some x) = go x.0 x.1 x.2
 
 -- `inner` reads what stands in parentheses, from the opening one on
 abbrev pub old_value : Reader → Span → Reader
 old_value inner here zero ts = too_deep here
 old_value inner here (suc d) ts = and_then (inner d ts) (λ e r. done (Old here e) r)
 
-abbrev pub word_value : Reader → ℕ → Symbol → List Symbol → Fixed → Outcome Expression
+abbrev pub word_value : Reader → ℕ → Symbol → List Symbol → Fixed → ReadResult Expression
 word_value inner d t ts fixed.True = done (Truth t.span true) ts
 word_value inner d t ts fixed.False = done (Truth t.span false) ts
 word_value inner d t ts fixed.Old = old_value inner t.span d ts
 word_value inner d t ts fixed.OpenParenthesis = inner d (t ∷ ts)
 word_value inner d t ts f = Err (syntax_fault t.span)
 
-abbrev pub sign_value : Reader → ℕ → Symbol → List Symbol → Sign → Outcome Expression
+abbrev pub sign_value : Reader → ℕ → Symbol → List Symbol → Sign → ReadResult Expression
 sign_value inner d t ts (signs.Number n) = done (Lit t.span n) ts
 sign_value inner d t ts (signs.Name x) = done (Var t.span (record { span = t.span; text = x })) ts
 sign_value inner d t ts (signs.Fixed f) = word_value inner d t ts f
@@ -167,20 +167,20 @@ primary end inner d (t ∷ ts) = sign_value inner d t ts t.sign
 
 -- `!`, unary `-` and what binds more
 unfoldable pub unary : Span → Reader → Reader
-unary end inner zero ts = signed (primary end inner zero ts) (λ o at m. too_deep at) (prefix_at ts)
-unary end inner (suc d) ts = signed (primary end inner (suc d) ts) (λ o at m. over o at (unary end inner d m)) (prefix_at ts)
+unary end inner zero ts = if_prefixed (primary end inner zero ts) (λ o at m. too_deep at) (prefix_at ts)
+unary end inner (suc d) ts = if_prefixed (primary end inner (suc d) ts) (λ o at m. over o at (unary end inner d m)) (prefix_at ts)
 
-abbrev pub product : Span → Reader → Reader
-product end inner = chained end chains.Product (unary end inner)
+abbrev pub factor_chain : Span → Reader → Reader
+factor_chain end inner = chained end chains.Product (unary end inner)
 
 abbrev pub sum : Span → Reader → Reader
-sum end inner = chained end chains.Sum (product end inner)
+sum end inner = chained end chains.Sum (factor_chain end inner)
 
 -- one comparison at most
 unfoldable pub comparison : Span → Reader → Reader
 comparison end inner d ts =
     and_then (sum end inner d ts) (λ a r.
-    followed a r (λ o at m. unless_deep (nat_le d (depth a)) at (operation (place_or end ts) o a (sum end inner (d - 1) m))) (infix_at Comparison r))
+    unless_alone a r (λ o at m. unless_deep (nat_le d (depth a)) at (binary_operation (place_or end ts) o a (sum end inner (d - 1) m))) (infix_at Comparison r))
 
 abbrev pub junction_by : Option Infix → Chain
 junction_by None = chains.Conjunction
@@ -190,16 +190,16 @@ junction_by (Some x) = chains.Disjunction
 abbrev pub junction : Span → Reader → Reader
 junction end inner d ts =
     and_then (comparison end inner d ts) (λ a r.
-    chain (junction_by (infix_at Disjunction r)) (comparison end inner) (place_or end ts) d d a r)
+    chain_behind (junction_by (infix_at Disjunction r)) (comparison end inner) (place_or end ts) d d a r)
 
 -- `==>` groups to the right
 unfoldable pub implication : Span → Reader → Reader
 implication end inner zero ts =
     and_then (junction end inner zero ts) (λ a r.
-    followed a r (λ o at m. too_deep at) (infix_at Implication r))
+    unless_alone a r (λ o at m. too_deep at) (infix_at Implication r))
 implication end inner (suc d) ts =
     and_then (junction end inner (suc d) ts) (λ a r.
-    followed a r (λ o at m. unless_deep (nat_le (suc d) (depth a)) at (operation (place_or end ts) o a (implication end inner d m))) (infix_at Implication r))
+    unless_alone a r (λ o at m. unless_deep (nat_le (suc d) (depth a)) at (binary_operation (place_or end ts) o a (implication end inner d m))) (infix_at Implication r))
 
 abbrev pub equivalence : Span → Reader → Reader
 equivalence end inner = chained end chains.Equivalence (implication end inner)
@@ -209,13 +209,13 @@ abbrev pub operand : Span → Reader → Chain → Reader
 operand end inner chains.Equivalence = implication end inner
 operand end inner chains.Conjunction = comparison end inner
 operand end inner chains.Disjunction = comparison end inner
-operand end inner chains.Sum = product end inner
+operand end inner chains.Sum = factor_chain end inner
 operand end inner chains.Product = unary end inner
 
 -- an expression in parentheses, from the opening one on, where p may be open at once
 unfoldable pub inside : Span → ℕ → Reader
-inside end zero d ts = expected end ts (λ m. too_deep (place_or end ts)) (after opens ts)
-inside end (suc p) d ts = expected end ts (λ m. and_then (equivalence end (inside end p) d m) (closed end)) (after opens ts)
+inside end zero d ts = expected end ts (λ m. too_deep (place_or end ts)) (behind_sign opens ts)
+inside end (suc p) d ts = expected end ts (λ m. and_then (equivalence end (inside end p) d m) (closed end)) (behind_sign opens ts)
 
 -- an expression, where p parentheses may be open in it at once
 abbrev pub expression : Span → ℕ → Reader

@@ -10,8 +10,8 @@ pub record Read (X : Type 0) : Type 0 where
   pub value : X
   pub rest : List Symbol
 
-abbrev pub Outcome : Type 0 → Type 0
-Outcome X = Result (Read X) Fault
+abbrev pub ReadResult : Type 0 → Type 0
+ReadResult X = Result (Read X) Fault
 
 -- the place of the first symbol, or just past the text's end
 abbrev pub place_or : Span → List Symbol → Span
@@ -25,10 +25,10 @@ abbrev pub limit_fault : Which → Span → Fault
 limit_fault which here = faults.Limit which here.line here.col
 
 -- the first symbol can't stand there
-abbrev pub refused : {X : Type 0} → Span → List Symbol → Outcome X
+abbrev pub refused : {X : Type 0} → Span → List Symbol → ReadResult X
 refused end ts = Err (syntax_fault (place_or end ts))
 
 -- what follows goes on from the value and the symbols behind it
-abbrev pub and_then : {X Y : Type 0} → Outcome X → (X → List Symbol → Outcome Y) → Outcome Y
+abbrev pub and_then : {X Y : Type 0} → ReadResult X → (X → List Symbol → ReadResult Y) → ReadResult Y
 and_then (Ok x) go = go x.value x.rest
 and_then (Err f) go = Err f

@@ -11,7 +11,7 @@ use Rattle.boogie_parse.specs.declared.symbols.Fixed.TheVariants as fixed
 use Rattle.boogie_parse.specs.declared.symbols.Sign.{Sign}
 use Rattle.boogie_parse.specs.declared.symbols.Sign.TheVariants as signs
 use Rattle.boogie_parse.specs.declared.symbols.Symbol.{Symbol}
-use Rattle.boogie_parse.specs.Reading.Outcomes.{Read, Outcome, place_or, syntax_fault, limit_fault}
+use Rattle.boogie_parse.specs.Reading.Outcomes.{Read, ReadResult, place_or, syntax_fault, limit_fault}
 use Rattle.boogie_parse.specs.Rules.GrammarLimits.{procedures_counted}
 use Rattle.boogie_parse.specs.Rules.GrammarProgram.{Head, procedure_read}
 use Rattle.boogie_parse.specs.Reading.ListReading.{◌>>=◌, read, Possible, there, one_there, repeated, seen, behind, opened, name_at, listed_names, declared_behind, formals_at, results_at, claim_at, condition_behind}
@@ -26,21 +26,21 @@ unfoldable pub local_at : Span → ℕ → List Symbol → Possible (List Vary)
 local_at end room ts = local_by end room (seen fixed.Var ts)
 
 -- the locals that stand there, so many at most
-unfoldable pub locals_at : Span → ℕ → List Symbol → Outcome (List Vary)
+unfoldable pub locals_at : Span → ℕ → List Symbol → ReadResult (List Vary)
 locals_at end room ts = repeated (local_at end) length room (length ts) ts
 
-abbrev pub modifies_by : Span → List Symbol → Option (Read Span) → Outcome Specification
+abbrev pub modifies_by : Span → List Symbol → Option (Read Span) → ReadResult Specification
 modifies_by end ts (Some semicolon) = read (Modifies []) semicolon.rest
 modifies_by end ts None = do
   xs ← listed_names end ts
   read (Modifies xs.value) xs.rest
 
 -- a modifies list, behind its word
-unfoldable pub modifies_at : Span → List Symbol → Outcome Specification
+unfoldable pub modifies_at : Span → List Symbol → ReadResult Specification
 modifies_at end ts = modifies_by end ts (seen fixed.Semicolon ts)
 
 -- the front of a procedure or an implementation, behind its word, which stands `here`, with v variables at most
-unfoldable pub head_at : Span → ℕ → ℕ → Span → List Symbol → Outcome Head
+unfoldable pub head_at : Span → ℕ → ℕ → Span → List Symbol → ReadResult Head
 head_at end p v here ts = do
   x ← name_at end ts
   ps ← formals_at end p v x.rest
@@ -55,13 +55,13 @@ abbrev pub finished : Span → Read (List Declaration) → List Symbol → Resul
 finished end ds [] = Ok ds.value
 finished end ds (t ∷ ts) = Err (syntax_fault t.span)
 
-module _ (reads : ℕ → List Symbol → Outcome Expression) (end : Span) (p : ℕ) where
-  unfoldable pub requires_at : Bool → Read Span → Outcome Specification
+module _ (reads : ℕ → List Symbol → ReadResult Expression) (end : Span) (p : ℕ) where
+  unfoldable pub requires_at : Bool → Read Span → ReadResult Specification
   requires_at free word = do
     i ← condition_behind reads end p free word
     read (Requires i.value) i.rest
 
-  unfoldable pub ensures_at : Bool → Read Span → Outcome Specification
+  unfoldable pub ensures_at : Bool → Read Span → ReadResult Specification
   ensures_at free word = do
     i ← condition_behind reads end p free word
     read (Ensures i.value) i.rest
@@ -97,17 +97,17 @@ module _ (reads : ℕ → List Symbol → Outcome Expression) (end : Span) (p : 
   specification_item room ts = one_there (specification_at ts)
 
   -- the specifications that stand there
-  unfoldable pub specifications_at : List Symbol → Outcome (List Specification)
+  unfoldable pub specifications_at : List Symbol → ReadResult (List Specification)
   specifications_at ts = repeated specification_item length 0 (length ts) ts
 
-  unfoldable pub axiom_at : Span → List Symbol → Outcome (List Declaration)
+  unfoldable pub axiom_at : Span → List Symbol → ReadResult (List Declaration)
   axiom_at here ts = do
     e ← claim_at reads end p ts
     read (Axiom here e.value ∷ []) e.rest
 
   module _ (b : ℕ) where
     -- a body, with so many locals at most
-    unfoldable pub body_at : ℕ → List Symbol → Outcome ProcedureBody
+    unfoldable pub body_at : ℕ → List Symbol → ReadResult ProcedureBody
     body_at room ts = do
       inner ← opened end fixed.OpenBrace b ts
       vs ← locals_at end room inner.rest
@@ -116,7 +116,7 @@ module _ (reads : ℕ → List Symbol → Outcome Expression) (end : Span) (p : 
       read (record { locals = vs.value; stmts = block ss.value }) closing.rest
 
     module _ (v : ℕ) where
-      abbrev pub procedure_by : Head → List Symbol → Option (Read Span) → Outcome (List Declaration)
+      abbrev pub procedure_by : Head → List Symbol → Option (Read Span) → ReadResult (List Declaration)
       procedure_by h ts (Some semicolon) = do
         ss ← specifications_at semicolon.rest
         read (Declares (procedure_read h ss.value None) ∷ []) ss.rest
@@ -126,29 +126,29 @@ module _ (reads : ℕ → List Symbol → Outcome Expression) (end : Span) (p : 
         read (Declares (procedure_read h ss.value (Some x.value)) ∷ []) x.rest
 
       -- a procedure, behind its word
-      unfoldable pub procedure_at : Span → List Symbol → Outcome (List Declaration)
+      unfoldable pub procedure_at : Span → List Symbol → ReadResult (List Declaration)
       procedure_at here ts = do
         h ← head_at end p v here ts
         procedure_by h.value h.rest (seen fixed.Semicolon h.rest)
 
       -- an implementation, behind its word
-      unfoldable pub implementation_at : Span → List Symbol → Outcome (List Declaration)
+      unfoldable pub implementation_at : Span → List Symbol → ReadResult (List Declaration)
       implementation_at here ts = do
         h ← head_at end p v here ts
         x ← body_at (room_behind v h.value) h.rest
         read (Implements (procedure_read h.value [] (Some x.value)) ∷ []) x.rest
 
       -- a procedure, if there is room for one more
-      unfoldable pub new_procedure : ℕ → Span → List Symbol → Outcome (List Declaration)
+      unfoldable pub new_procedure : ℕ → Span → List Symbol → ReadResult (List Declaration)
       new_procedure zero here ts = Err (limit_fault which.Procedures here)
       new_procedure (suc room) here ts = procedure_at here ts
 
-      unfoldable pub constants_at : List Symbol → Outcome (List Declaration)
+      unfoldable pub constants_at : List Symbol → ReadResult (List Declaration)
       constants_at ts = do
         vs ← declared_behind end v ts
         read (map Const vs.value) vs.rest
 
-      unfoldable pub globals_at : List Symbol → Outcome (List Declaration)
+      unfoldable pub globals_at : List Symbol → ReadResult (List Declaration)
       globals_at ts = do
         vs ← declared_behind end v ts
         read (map Global vs.value) vs.rest
@@ -167,7 +167,7 @@ module _ (reads : ℕ → List Symbol → Outcome Expression) (end : Span) (p : 
       declaration_at room (t ∷ ts) = declaration_by room t.span ts t.sign
 
       -- the declarations that stand there, with so many procedures at most
-      unfoldable pub declarations_at : ℕ → List Symbol → Outcome (List Declaration)
+      unfoldable pub declarations_at : ℕ → List Symbol → ReadResult (List Declaration)
       declarations_at room ts = repeated declaration_at procedures_counted room (length ts) ts
 
       -- a whole program, with so many procedures at most

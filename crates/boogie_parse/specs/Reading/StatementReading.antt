@@ -10,28 +10,28 @@ use Rattle.boogie_parse.specs.declared.symbols.Fixed.TheVariants as fixed
 use Rattle.boogie_parse.specs.declared.symbols.Sign.{Sign}
 use Rattle.boogie_parse.specs.declared.symbols.Sign.TheVariants as signs
 use Rattle.boogie_parse.specs.declared.symbols.Symbol.{Symbol}
-use Rattle.boogie_parse.specs.Reading.Outcomes.{Read, Outcome, limit_fault}
+use Rattle.boogie_parse.specs.Reading.Outcomes.{Read, ReadResult, limit_fault}
 use Rattle.boogie_parse.specs.Reading.ListReading.{◌>>=◌, read, Possible, there, one_there, repeated, seen, behind, name_at, names_at, listed_names, expressions_at, arguments_at, guard_at, claim_at, invariants_at}
 
 -- How to read what opens a block: a block, and the branch of an `else if`, from behind that `if` on.
 pub record Inside : Type 0 where
-  pub block : List Symbol → Outcome Block
-  pub branch : Span → List Symbol → Outcome Statement
+  pub block : List Symbol → ReadResult Block
+  pub branch : Span → List Symbol → ReadResult Statement
 
 -- what stands behind `else`
-abbrev pub other_by : Inside → List Symbol → Option (Read Span) → Outcome Block
+abbrev pub other_by : Inside → List Symbol → Option (Read Span) → ReadResult Block
 other_by inside ts (Some word) = do
   s ← inside.branch word.value word.rest
   read (Then s.value Empty) s.rest
 other_by inside ts None = inside.block ts
 
-abbrev pub else_by : Inside → Span → Guard → Block → List Symbol → Option (Read Span) → Outcome Statement
+abbrev pub else_by : Inside → Span → Guard → Block → List Symbol → Option (Read Span) → ReadResult Statement
 else_by inside here g a ts None = read (If here g a Empty) ts
 else_by inside here g a ts (Some word) = do
   b ← other_by inside word.rest (seen fixed.If word.rest)
   read (If here g a b.value) b.rest
 
-abbrev pub break_by : Span → Span → List Symbol → Option (Read Span) → Outcome Statement
+abbrev pub break_by : Span → Span → List Symbol → Option (Read Span) → ReadResult Statement
 break_by end here ts (Some semicolon) = read (Break here None) semicolon.rest
 break_by end here ts None = do
   x ← name_at end ts
@@ -39,37 +39,37 @@ break_by end here ts None = do
   read (Break here (Some x.value)) semicolon.rest
 
 -- a statement, behind its first word, which stands `here`
-unfoldable pub break_at : Span → Span → List Symbol → Outcome Statement
+unfoldable pub break_at : Span → Span → List Symbol → ReadResult Statement
 break_at end here ts = break_by end here ts (seen fixed.Semicolon ts)
 
-unfoldable pub return_at : Span → Span → List Symbol → Outcome Statement
+unfoldable pub return_at : Span → Span → List Symbol → ReadResult Statement
 return_at end here ts = do
   semicolon ← behind end fixed.Semicolon ts
   read (Return here) semicolon.rest
 
-unfoldable pub havoc_at : Span → Span → List Symbol → Outcome Statement
+unfoldable pub havoc_at : Span → Span → List Symbol → ReadResult Statement
 havoc_at end here ts = do
   xs ← listed_names end ts
   read (Havoc here xs.value) xs.rest
 
-unfoldable pub goto_at : Span → Span → List Symbol → Outcome Statement
+unfoldable pub goto_at : Span → Span → List Symbol → ReadResult Statement
 goto_at end here ts = do
   xs ← listed_names end ts
   read (Goto here xs.value) xs.rest
 
-module _ (reads : ℕ → List Symbol → Outcome Expression) (end : Span) (p : ℕ) where
-  unfoldable pub assert_at : Span → List Symbol → Outcome Statement
+module _ (reads : ℕ → List Symbol → ReadResult Expression) (end : Span) (p : ℕ) where
+  unfoldable pub assert_at : Span → List Symbol → ReadResult Statement
   assert_at here ts = do
     e ← claim_at reads end p ts
     read (Assert here e.value) e.rest
 
-  unfoldable pub assume_at : Span → List Symbol → Outcome Statement
+  unfoldable pub assume_at : Span → List Symbol → ReadResult Statement
   assume_at here ts = do
     e ← claim_at reads end p ts
     read (Assume here e.value) e.rest
 
   -- an assignment, from its first target on, which stands `here`
-  unfoldable pub assign_at : Span → List Symbol → Outcome Statement
+  unfoldable pub assign_at : Span → List Symbol → ReadResult Statement
   assign_at here ts = do
     xs ← names_at end (length ts) ts
     becomes ← behind end fixed.Becomes xs.rest
@@ -78,37 +78,37 @@ module _ (reads : ℕ → List Symbol → Outcome Expression) (end : Span) (p : 
     read (Assign here xs.value es.value) semicolon.rest
 
   -- a call, behind the procedure's name
-  unfoldable pub called_at : Span → List Name → Name → List Symbol → Outcome Statement
+  unfoldable pub called_at : Span → List Name → Name → List Symbol → ReadResult Statement
   called_at here xs f ts = do
     es ← arguments_at reads end p ts
     semicolon ← behind end fixed.Semicolon es.rest
     read (Call here xs f es.value) semicolon.rest
 
-  unfoldable pub call_into : Span → List Symbol → Outcome Statement
+  unfoldable pub call_into : Span → List Symbol → ReadResult Statement
   call_into here ts = do
     xs ← names_at end (length ts) ts
     becomes ← behind end fixed.Becomes xs.rest
     f ← name_at end becomes.rest
     called_at here xs.value f.value f.rest
 
-  abbrev pub call_by : Span → List Symbol → Read Name → Option (Read Span) → Outcome Statement
+  abbrev pub call_by : Span → List Symbol → Read Name → Option (Read Span) → ReadResult Statement
   call_by here ts f (Some parenthesis) = called_at here [] f.value f.rest
   call_by here ts f None = call_into here ts
 
-  unfoldable pub call_at : Span → List Symbol → Outcome Statement
+  unfoldable pub call_at : Span → List Symbol → ReadResult Statement
   call_at here ts = do
     f ← name_at end ts
     call_by here ts f (seen fixed.OpenParenthesis f.rest)
 
-  abbrev pub named_by : Name → List Symbol → Option (Read Span) → Outcome Statement
+  abbrev pub named_by : Name → List Symbol → Option (Read Span) → ReadResult Statement
   named_by x ts (Some colon) = read (Label x) colon.rest
   named_by x ts None = assign_at x.span ts
 
   -- a label or an assignment, whose name stands there with ts behind it
-  unfoldable pub named_at : Name → List Symbol → List Symbol → Outcome Statement
+  unfoldable pub named_at : Name → List Symbol → List Symbol → ReadResult Statement
   named_at x ts rest = named_by x ts (seen fixed.Colon rest)
 
-  unfoldable pub loop_at : (List Symbol → Outcome Block) → Span → List Symbol → Outcome Statement
+  unfoldable pub loop_at : (List Symbol → ReadResult Block) → Span → List Symbol → ReadResult Statement
   loop_at block_at here ts = do
     g ← guard_at reads end p ts
     is ← invariants_at reads end p g.rest
@@ -116,7 +116,7 @@ module _ (reads : ℕ → List Symbol → Outcome Expression) (end : Span) (p : 
     read (While here g.value is.value b.value) b.rest
 
   -- a branch, behind its `if`
-  unfoldable pub branch_by : Inside → Span → List Symbol → Outcome Statement
+  unfoldable pub branch_by : Inside → Span → List Symbol → ReadResult Statement
   branch_by inside here ts = do
     g ← guard_at reads end p ts
     a ← inside.block g.rest
@@ -144,17 +144,17 @@ module _ (reads : ℕ → List Symbol → Outcome Expression) (end : Span) (p : 
   statement_item inside room ts = one_there (statement_at inside ts)
 
   -- the statements that stand there
-  unfoldable pub list_at : Inside → List Symbol → Outcome (List Statement)
+  unfoldable pub list_at : Inside → List Symbol → ReadResult (List Statement)
   list_at inside ts = repeated (statement_item inside) length 0 (length ts) ts
 
   -- statements in braces, where no block may be opened
-  unfoldable pub no_block : List Symbol → Outcome Block
+  unfoldable pub no_block : List Symbol → ReadResult Block
   no_block ts = do
     brace ← behind end fixed.OpenBrace ts
     Err (limit_fault which.Nesting brace.value)
 
   -- statements in braces
-  unfoldable pub block_by : Inside → List Symbol → Outcome Block
+  unfoldable pub block_by : Inside → List Symbol → ReadResult Block
   block_by inside ts = do
     brace ← behind end fixed.OpenBrace ts
     ss ← list_at inside brace.rest
@@ -162,7 +162,7 @@ module _ (reads : ℕ → List Symbol → Outcome Expression) (end : Span) (p : 
     read (block ss.value) closing.rest
 
   -- a branch inside a block, where no block may be opened
-  unfoldable pub no_branch : Span → List Symbol → Outcome Statement
+  unfoldable pub no_branch : Span → List Symbol → ReadResult Statement
   no_branch here ts = Err (limit_fault which.Nesting here)
 
   abbrev pub deeper : Inside → Inside

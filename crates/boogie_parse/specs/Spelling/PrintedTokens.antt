@@ -9,7 +9,7 @@ use Rattle.boogie_tree.specs.Names.{is_digit, is_name_byte}
 use Rattle.boogie_parse.specs.declared.token.TokenKind.TheVariants as kinds
 use Rattle.boogie_parse.specs.declared.lexer.token.Token.{Token}
 use Rattle.boogie_parse.specs.declared.symbols.Sign.TheVariants as signs
-use Rattle.boogie_parse.specs.Lexing.Lexed.{lexed, beside, left_out}
+use Rattle.boogie_parse.specs.Lexing.Lexed.{lexed, beside_text, left_out}
 use Rattle.boogie_parse.specs.Lexing.Symbols.{sign_of, symbol}
 use Rattle.boogie_parse.specs.Spelling.Spelled.{program_signs}
 
@@ -23,7 +23,7 @@ pub record IsFreeWord (text : List ℕ) : Type 0 where
   pub begins : begins_word text ≡ true
   pub bytes : list_all is_name_byte text ≡ true
   pub free : sign_of kinds.Word text ≡ signs.Name text
-  pub supported : beside text left_out ≡ None
+  pub supported : beside_text text left_out ≡ None
 
 abbrev pub AreNames : List Name → Type 0
 AreNames xs = AllByRecursion (λ (x : Name). IsFreeWord x.text) xs

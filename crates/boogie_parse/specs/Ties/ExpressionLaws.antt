@@ -8,7 +8,7 @@ use Rattle.boogie_parse.specs.declared.symbols.Fixed.TheVariants as fixed
 use Rattle.boogie_parse.specs.declared.symbols.Sign.{Sign}
 use Rattle.boogie_parse.specs.declared.symbols.Sign.TheVariants as signs
 use Rattle.boogie_parse.specs.declared.symbols.Symbol.{Symbol}
-use Rattle.boogie_parse.specs.Reading.Outcomes.{Outcome}
+use Rattle.boogie_parse.specs.Reading.Outcomes.{ReadResult}
 
 -- one more than the rank of a binary operator's level; 0 for all other words and marks
 abbrev pub strength : Fixed → ℕ
@@ -42,7 +42,7 @@ abbrev pub Ends : Level → List Symbol → Type 0
 Ends level r = first_strength r ≤ rank level
 
 -- What is read, or refused as no syntax, is so in the other outcome too. A limit says nothing of it.
-abbrev pub Grows : {X : Type 0} → Outcome X → Outcome X → Type 0
+abbrev pub Grows : {X : Type 0} → ReadResult X → ReadResult X → Type 0
 Grows (Ok x) y = y ≡ Ok x
 Grows (Err (faults.Syntax line col)) y = y ≡ Err (faults.Syntax line col)
 Grows (Err f) y = Unit {0}

@@ -9,7 +9,7 @@ use Rattle.boogie_parse.specs.declared.fault.Fault.TheVariants as faults
 use Rattle.boogie_parse.specs.declared.symbols.Symbol.{Symbol}
 use Rattle.boogie_parse.specs.declared.grammar.found.Found.{Found}
 use Rattle.boogie_parse.specs.Rules.GrammarLimits as limits
-use Rattle.boogie_parse.specs.Reading.Outcomes.{Read, Outcome}
+use Rattle.boogie_parse.specs.Reading.Outcomes.{Read, ReadResult}
 
 abbrev pub tree : Found → Expression
 tree f = view.expression f.expr.value
@@ -18,7 +18,7 @@ abbrev pub found : Found → Read Expression
 found f = record { value = tree f; rest = f.rest.now }
 
 -- the call gives what is expected, unless memory runs out
-abbrev pub Gives : Result Found Fault → Outcome Expression → Type 0
+abbrev pub Gives : Result Found Fault → ReadResult Expression → Type 0
 Gives (Ok f) x = x ≡ Ok (found f)
 Gives (Err e) x = e ≢ faults.Memory → x ≡ Err e
 

@@ -10,7 +10,7 @@ use Rattle.boogie_tree.specs.View.{statement, statements}
 use Rattle.boogie_parse.specs.declared.fault.Fault.{Fault}
 use Rattle.boogie_parse.specs.declared.fault.Fault.TheVariants as faults
 use Rattle.boogie_parse.specs.declared.symbols.Symbol.{Symbol}
-use Rattle.boogie_parse.specs.Reading.Outcomes.{Outcome}
+use Rattle.boogie_parse.specs.Reading.Outcomes.{ReadResult}
 use Rattle.boogie_parse.specs.Reading.ListReading.{read, Possible, expression_at}
 use Rattle.boogie_parse.specs.Reading.StatementReading.{Inside, inside_at}
 
@@ -22,7 +22,7 @@ abbrev pub block_of : Vec Stmt Global → Block
 block_of ss = statements ss.items
 
 -- One statement more stands at the end of the code's list: with the symbols behind it, it is what reading gives, but where memory runs out.
-abbrev pub Adds : List Stmt → List Stmt → Result (Bor (List Symbol)) Fault → Outcome Statement → Type 0
+abbrev pub Adds : List Stmt → List Stmt → Result (Bor (List Symbol)) Fault → ReadResult Statement → Type 0
 Adds old new (Ok rest) x = (s : Stmt) × (new ≡ old ++ s ∷ []) × (x ≡ read (statement s) rest.now)
 Adds old new (Err e) x = e ≢ faults.Memory → x ≡ Err e
 

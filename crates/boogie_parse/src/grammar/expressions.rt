@@ -61,7 +61,7 @@ impl Parser {
     ) -> Result<Found<'a>, Fault>
         requires first_low { first.height ≤ depth }
         requires first_height { HasHeight first }
-        ensures gives { Gives result (reading.chain chain (reading.operand self.now.end (reading.inside self.now.end parentheses) chain) place depth depth (tree first.entry) first.entry.rest.now) }
+        ensures gives { Gives result (reading.chain_behind chain (reading.operand self.now.end (reading.inside self.now.end parentheses) chain) place depth depth (tree first.entry) first.entry.rest.now) }
         ensures height { IfOk result HasHeight }
         ensures low { IfOk result (λ f. f.height ≤ depth) }
     {
@@ -137,7 +137,7 @@ impl Parser {
     ) -> Result<Found<'a>, Fault>
         requires left_low { left.height ≤ depth }
         requires left_height { HasHeight left }
-        ensures gives { Gives result (reading.followed (tree left.entry) left.entry.rest.now (λ o at m. reading.unless_deep (nat_le depth (depth_of (tree left.entry))) at (reading.operation place o (tree left.entry) (reading.implication self.now.end (reading.inside self.now.end parentheses) (depth - 1) m))) (reading.infix_at levels.Implication left.entry.rest.now)) }
+        ensures gives { Gives result (reading.unless_alone (tree left.entry) left.entry.rest.now (λ o at m. reading.unless_deep (nat_le depth (depth_of (tree left.entry))) at (reading.binary_operation place o (tree left.entry) (reading.implication self.now.end (reading.inside self.now.end parentheses) (depth - 1) m))) (reading.infix_at levels.Implication left.entry.rest.now)) }
         ensures height { IfOk result HasHeight }
         ensures low { IfOk result (λ f. f.height ≤ depth) }
     {
@@ -162,7 +162,7 @@ impl Parser {
     ) -> Result<Found<'a>, Fault>
         requires first_low { first.height ≤ depth }
         requires first_height { HasHeight first }
-        ensures gives { Gives result (reading.chain (reading.junction_by (reading.infix_at levels.Disjunction first.entry.rest.now)) (reading.comparison self.now.end (reading.inside self.now.end parentheses)) place depth depth (tree first.entry) first.entry.rest.now) }
+        ensures gives { Gives result (reading.chain_behind (reading.junction_by (reading.infix_at levels.Disjunction first.entry.rest.now)) (reading.comparison self.now.end (reading.inside self.now.end parentheses)) place depth depth (tree first.entry) first.entry.rest.now) }
         ensures height { IfOk result HasHeight }
         ensures low { IfOk result (λ f. f.height ≤ depth) }
     {
@@ -202,7 +202,7 @@ impl Parser {
     ) -> Result<Found<'a>, Fault>
         requires left_low { left.height ≤ depth }
         requires left_height { HasHeight left }
-        ensures gives { Gives result (reading.followed (tree left.entry) left.entry.rest.now (λ o at m. reading.unless_deep (nat_le depth (depth_of (tree left.entry))) at (reading.operation place o (tree left.entry) (reading.sum self.now.end (reading.inside self.now.end parentheses) (depth - 1) m))) (reading.infix_at levels.Comparison left.entry.rest.now)) }
+        ensures gives { Gives result (reading.unless_alone (tree left.entry) left.entry.rest.now (λ o at m. reading.unless_deep (nat_le depth (depth_of (tree left.entry))) at (reading.binary_operation place o (tree left.entry) (reading.sum self.now.end (reading.inside self.now.end parentheses) (depth - 1) m))) (reading.infix_at levels.Comparison left.entry.rest.now)) }
         ensures height { IfOk result HasHeight }
         ensures low { IfOk result (λ f. f.height ≤ depth) }
     {
@@ -235,7 +235,7 @@ impl Parser {
         depth: u8,
         symbols: &'a [Symbol],
     ) -> Result<Found<'a>, Fault>
-        ensures gives { Gives result (reading.product self.now.end (reading.inside self.now.end parentheses) depth symbols.entry.now) }
+        ensures gives { Gives result (reading.factor_chain self.now.end (reading.inside self.now.end parentheses) depth symbols.entry.now) }
         ensures height { IfOk result HasHeight }
         ensures low { IfOk result (λ f. f.height ≤ depth) }
     {

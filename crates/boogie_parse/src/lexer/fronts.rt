@@ -2,7 +2,7 @@
 
 ghost use Rattle.std.specs.Prelude.{◌≡◌, ◌≤◌, length, drop, option_map};
 ghost use Rattle.boogie_tree.specs.Names.{is_digit};
-ghost use Rattle.boogie_parse.specs.Lexing.Tokens.{run};
+ghost use Rattle.boogie_parse.specs.Lexing.Tokens.{passing_length};
 ghost use Rattle.boogie_parse.specs.Lexing.Pieces as spec;
 ghost use Rattle.boogie_parse.specs.Ties.PieceViews.{front};
 ghost use Rattle.boogie_parse.specs.Ties.Turns.{first_mark, front_of};
@@ -17,7 +17,7 @@ use boogie_tree::names::{is_digit, is_name_byte};
 
 // A text that begins with a digit. A literal that is too large is no real, whatever stands behind it.
 fn literal_front(text: &[u8]) -> Front
-    ensures { front result ≡ spec.literal_front (run is_digit text.now) text.now }
+    ensures { front result ≡ spec.literal_front (passing_length is_digit text.now) text.now }
 {
     let len = run(Class::Digit, text);
     let (digits, after) = text.split_at(len);
@@ -33,7 +33,7 @@ fn literal_front(text: &[u8]) -> Front
 
 // A text that begins with `"`, by what stands behind that. An open string takes the rest of its line.
 fn string_front(after: &[u8]) -> Front
-    ensures { front result ≡ spec.string_front (run spec.is_in_line after.now) (spec.string_length 34 after.now) }
+    ensures { front result ≡ spec.string_front (passing_length spec.is_in_line after.now) (spec.string_length 34 after.now) }
 {
     match string_length(after) {
         Some(len) => Front::Found(Shape::Quoted, 1 + len),

@@ -39,7 +39,7 @@ const LEFT_OUT: [(&[u8], What); 21] = [
 
 // The part that a token's text belongs to, if it is left out.
 fn left_out(text: &[u8]) -> Option<What>
-    ensures { result ≡ spec.beside text.now spec.left_out }
+    ensures { result ≡ spec.beside_text text.now spec.left_out }
 {
     let (_, part) = LEFT_OUT.iter().find(|row| text == row.0)?;
     Some(*part)
@@ -57,9 +57,9 @@ pub(super) fn syntax_at(here: Span) -> Fault
 
 // A token, unless its text belongs to a part that is left out.
 fn supported(alloc: Global, span: Span, kind: TokenKind, text: &[u8]) -> Result<Token, Fault>
-    ensures token { IfOk result (λ t. spec.supported span kind text.now (spec.beside text.now spec.left_out) ≡ Ok t) }
+    ensures token { IfOk result (λ t. spec.supported span kind text.now (spec.beside_text text.now spec.left_out) ≡ Ok t) }
     ensures fault { IfErr result (λ f. f ≢ Fault.Memory →
-        spec.supported span kind text.now (spec.beside text.now spec.left_out) ≡ Err f) }
+        spec.supported span kind text.now (spec.beside_text text.now spec.left_out) ≡ Err f) }
 {
     if let Some(what) = left_out(text) {
         return Err(Fault::Unsupported {

@@ -1,7 +1,7 @@
 //! Runs of bytes and marks that a text begins with.
 
 ghost use Rattle.std.specs.Prelude.{◌≡◌, ◌≤◌, length};
-ghost use Rattle.boogie_parse.specs.Lexing.Tokens.{run, makes_real, mark_at};
+ghost use Rattle.boogie_parse.specs.Lexing.Tokens.{passing_length, makes_real, mark_at};
 ghost use Rattle.boogie_parse.specs.Ties.Class.{passes};
 
 use crate::token::TokenKind;
@@ -37,7 +37,7 @@ impl Class {
 
 /// How many bytes of the class the text begins with.
 pub(super) fn run(class: Class, text: &[u8]) -> usize
-    ensures counted { result ≡ run (passes class) text.now }
+    ensures counted { result ≡ passing_length (passes class) text.now }
     ensures within { result ≤ length text.now }
 {
     for (i, b) in text.iter().enumerate() {

@@ -95,7 +95,7 @@ pub(crate) fn prefix_at<'a>(symbols: &'a [Symbol]) -> Option<(Prefix, Span, &'a 
 
 /// The symbols behind the `(` that they begin with.
 pub(crate) fn behind_open<'a>(symbols: &'a [Symbol]) -> Option<&'a [Symbol]>
-    ensures { behind result ≡ reading.after reading.opens symbols.entry.now }
+    ensures { behind result ≡ reading.behind_sign reading.opens symbols.entry.now }
 {
     match symbols {
         [first, rest @ ..] => match &first.sign {
@@ -108,7 +108,7 @@ pub(crate) fn behind_open<'a>(symbols: &'a [Symbol]) -> Option<&'a [Symbol]>
 
 /// The symbols behind the `)` that they begin with.
 pub(crate) fn behind_close<'a>(symbols: &'a [Symbol]) -> Option<&'a [Symbol]>
-    ensures { behind result ≡ reading.after reading.closes symbols.entry.now }
+    ensures { behind result ≡ reading.behind_sign reading.closes symbols.entry.now }
 {
     match symbols {
         [first, rest @ ..] => match &first.sign {

@@ -5,12 +5,12 @@ use Rattle.std.proofs.lemmas.Iterator.Search.{find_from_yields_List}
 use Rattle.std.specs.Str.{bytes_eq}
 use Rattle.std.specs.Slice.Iter.{iter_rest}
 use Rattle.boogie_parse.specs.declared.fault.What.{What}
-use Rattle.boogie_parse.specs.Lexing.Lexed.{beside, left_out}
+use Rattle.boogie_parse.specs.Lexing.Lexed.{beside_text, left_out}
 use Rattle.boogie_parse.proofs.Lexing.LeftOut.{row, part_of, part_beside}
 use Rattle.boogie_parse.proofs.lexer.judgement.left_out.Goals as goal
 use Rattle.boogie_parse.proofs.lexer.judgement.left_out.Goals.{After-find}
 
-found : (c : After-find) → part_of c.find.result ≡ beside c.args.text.now left_out
+found : (c : After-find) → part_of c.find.result ≡ beside_text c.args.text.now left_out
 unfolding left_out
 found c =
     let test : Bor (List ℕ) × What → Bool = λ r. bytes_eq c.args.text.now r.0.now in

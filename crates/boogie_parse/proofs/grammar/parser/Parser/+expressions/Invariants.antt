@@ -57,7 +57,7 @@ decreases-unary l = 32 * (l.parentheses + l.depth) + 2
 
 abbrev pub invariant-chain_from-loop-turn : goal.invariant-chain_from-loop-turn
 invariant-chain_from-loop-turn l =
-    (reading.chain l.chain (reading.operand l.self.end (reading.inside l.self.end l.parentheses) l.chain) l.place l.depth (l.depth - l._turn) (tree l.left) l.left.rest.now
-    ≡ reading.chain l.chain (reading.operand l.self.end (reading.inside l.self.end l.parentheses) l.chain) l.place l.depth l.depth (tree l.fn.first) l.fn.first.rest.now)
+    (reading.chain_behind l.chain (reading.operand l.self.end (reading.inside l.self.end l.parentheses) l.chain) l.place l.depth (l.depth - l._turn) (tree l.left) l.left.rest.now
+    ≡ reading.chain_behind l.chain (reading.operand l.self.end (reading.inside l.self.end l.parentheses) l.chain) l.place l.depth l.depth (tree l.fn.first) l.fn.first.rest.now)
     × HasHeight l.left
     × (l.left.height ≤ l.depth)
