@@ -9,7 +9,7 @@ use Rattle.std.proofs.lemmas.Option.{same_Some, none-some, cond_some}
 use Rattle.clap.specs.Kinds.{Kinds}
 use Rattle.clap.specs.Walk.{Row, first_of}
 use Rattle.text_reports.specs.CommandWords.Rules.{is_given}
-use Rattle.automizer_top.specs.CommandLine.{Task, Check, Replay, Print, Verify, Big, Lasso, Ranked, Settings, Request, is_number_in, number_in_bounds, go_together, task_of, settings_of, request_of, request_by, faults, values, requested}
+use Rattle.automizer_top.specs.CommandLine.{Task, Check, Replay, Print, Verify, Big, Lasso, Ranked, Settings, Request, is_number_in, number_in_bounds, go_together, task_of, settings_of, request_of, request_by, faults, argument_values, requested}
 use Rattle.automizer_top.specs.Report.{Ask}
 
 -- the name of the program text
@@ -102,4 +102,4 @@ taken_request (k ∷ ks) rows r e = absurd (none-some r e)
 
 pub rounds_fit : (words : List (List ℕ)) (r : Request) → requested words ≡ Some r → r.settings.limits.rounds ≤ 100000
 unfolding requested
-rounds_fit words r e = taken_request (faults words) (values words) r e
+rounds_fit words r e = taken_request (faults words) (argument_values words) r e

@@ -26,8 +26,8 @@ unfoldable pub faults : List (List ℕ) → Kinds
 faults words = fault_of command words
 
 -- the values that the words give to the arguments
-unfoldable pub values : List (List ℕ) → List Row
-values words = matches_of command words
+unfoldable pub argument_values : List (List ℕ) → List Row
+argument_values words = matches_of command words
 
 -- ---- what they ask for
 
@@ -118,4 +118,4 @@ request_by (fault ∷ more) rows = None
 -- What the words ask for; nothing where the command refuses them, or they name no mode with as many texts, or a number is out of its range, or both
 -- `--modular` and `--reuse` stand.
 unfoldable pub requested : List (List ℕ) → Option Request
-requested words = request_by (faults words) (values words)
+requested words = request_by (faults words) (argument_values words)

@@ -50,12 +50,12 @@ rest_of true number = Then (calls (number + 1)) (bound number)
 rest_of false number = bound number
 
 -- `g := g + 1;`
-abbrev pub step : Statement
-step = becomes (Bin beginning Add (Var beginning counter) (Lit beginning (pos 1)))
+abbrev pub counting_step : Statement
+counting_step = becomes (Bin beginning Add (Var beginning counter) (Lit beginning (pos 1)))
 
 -- the procedure with that number, which calls the next one or not
 abbrev pub link : Bool → ℕ → Procedure
-link next number = counting_procedure (link_name number) (Then step (rest_of next number))
+link next number = counting_procedure (link_name number) (Then counting_step (rest_of next number))
 
 -- one more than none
 abbrev pub is_positive : ℕ → Bool

@@ -111,7 +111,7 @@ pub(crate) fn reset(alloc: Global) -> Result<Stmt, AllocError>
 
 /// `g := g + 1;`
 pub(crate) fn step(alloc: Global) -> Result<Stmt, AllocError>
-    ensures { IfOk result (λ s. view.statement s ≡ generated.step) }
+    ensures { IfOk result (λ s. view.statement s ≡ generated.counting_step) }
 {
     becomes(alloc, operation(alloc, Op::Add, 1)?)
 }
