@@ -83,22 +83,6 @@ fn note_first(
     Ok(())
 }
 
-/// Adds a note of each parameter of a procedure.
-fn note_parameters(
-    line: &mut Line,
-    program: &Typed,
-    config: &Config<'_>,
-    callee: u32,
-) -> Result<(), AllocError>
-    requires fits { FitsProgram program.now config.now }
-    ensures { OnOk result (Adds line.old (spec.held (typed_program program.now) (config_of config.now) (spec.parameters (slice_get (typed_program program.now).procs callee))) line.new) }
-{
-    match procedure_at(program.procs(), callee) {
-        Some(called) => note_first(line, program, config, called.params),
-        None => Ok(()),
-    }
-}
-
 /// Adds a note of each of these globals.
 fn note_globals(
     line: &mut Line,
@@ -144,7 +128,10 @@ pub(crate) fn note_changes(
         Changes::Nothing => Ok(()),
         Changes::One(column) => note_held(line, program, config, column),
         Changes::Each(columns) => note_all(line, program, config, columns),
-        Changes::Parameters(callee) => note_parameters(line, program, config, callee),
+        Changes::Parameters(callee) => match procedure_at(program.procs(), callee) {
+            Some(called) => note_first(line, program, config, called.params),
+            None => Ok(()),
+        },
         Changes::Finished(callee, columns) => {
             note_finished(line, program, config, callee, columns)
         }

@@ -89,15 +89,6 @@ fn readings(
     note_all(line, program, config, found.as_slice())
 }
 
-/// The columns that an expression reads, each once, in order.
-fn columns_of_one(alloc: Global, expr: &TExpr) -> Result<IndexSet<Column>, AllocError>
-    ensures { IfOk result (λ found. found.keys ≡ spec.once [] (flat_map (spec.columns_in false) (view.expression expr.now ∷ []))) }
-{
-    let mut found = IndexSet::new(alloc);
-    columns(&mut found, false, expr)?;
-    Ok(found)
-}
-
 /// Adds what an expression reads.
 fn reading(
     alloc: Global,
@@ -109,7 +100,8 @@ fn reading(
     requires fits { FitsProgram program.now config.now }
     ensures { OnOk result (Adds line.old (spec.readings (typed_program program.now) (config_of config.now) (view.expression expr.now ∷ [])) line.new) }
 {
-    let found = columns_of_one(alloc, expr)?;
+    let mut found = IndexSet::new(alloc);
+    columns(&mut found, false, expr)?;
     note_all(line, program, config, found.as_slice())
 }
 

@@ -1,6 +1,6 @@
 //! One step of a run, and its line.
 
-ghost use Rattle.std.specs.Prelude.{◌≡◌, ℕ, List, false, IfOk, OnOk};
+ghost use Rattle.std.specs.Prelude.{◌≡◌, ◌++◌, ℕ, List, false, IfOk, OnOk};
 ghost use Rattle.std.specs.Option.{option_map, option_to_list};
 ghost use Rattle.boogie_tree.specs.Tree.{Declaration};
 ghost use Rattle.math_facts.specs.Optional.{or_zero};
@@ -50,19 +50,26 @@ fn place(alloc: Global, source: Source<'_>, calls: usize) -> Result<Line, AllocE
     ensures text { IfOk result (λ line. line.text.items ≡ place_text (item_of source.entry) calls) }
     ensures noted { IfOk result (λ line. line.noted ≡ false) }
 {
-    let at = span(source);
     let mut out = Vec::new(alloc);
-    literal(&mut out, i128::from(at.line))?;
-    append(&mut out, b":")?;
-    literal(&mut out, i128::from(at.col))?;
-    append(&mut out, b" ")?;
-    indentation(&mut out, calls)?;
-    text(&mut out, source)?;
-    append(&mut out, end(source))?;
+    push_place(&mut out, source, calls)?;
     Ok(Line {
         text: out,
         noted: false,
     })
+}
+
+/// Where an item stands, and its line in so many open calls.
+fn push_place(out: &mut Vec<u8>, source: Source<'_>, calls: usize) -> Result<(), AllocError>
+    ensures { OnOk result (out.new.items ≡ out.old.items ++ place_text (item_of source.entry) calls) }
+{
+    let at = span(source);
+    literal(out, i128::from(at.line))?;
+    append(out, b":")?;
+    literal(out, i128::from(at.col))?;
+    append(out, b" ")?;
+    indentation(out, calls)?;
+    text(out, source)?;
+    append(out, end(source))
 }
 
 /// The line of the item of a procedure at that place, or where it returns, in so many open calls, with one note or none.

@@ -54,9 +54,15 @@ pub fn trace_story(
     let Some(places) = run_of(alloc, icfg.nwa(), &word)? else {
         return Err(ToldFault::BadStep);
     };
-    let mut text = told_letters(alloc, tree, program, &places, word.letters(), all)?;
-    text.extend_from_slice(advice(trace.cause))?;
-    Ok(text)
+    Ok(told_letters(
+        alloc,
+        tree,
+        program,
+        &places,
+        word.letters(),
+        trace.cause,
+        all,
+    )?)
 }
 
 /// The letter of that number.
@@ -177,32 +183,70 @@ fn letter_in(letters: &[Letter], number: usize) -> Letter
     letters[number]
 }
 
-/// The lines of letters that lead along these places.
+/// The lines of letters that lead along these places, and what to do about the cause.
 fn told_letters(
     alloc: Global,
     tree: &Program,
     program: &Typed,
     places: &[u32],
     letters: &[Letter],
+    cause: Cause,
     all: bool,
 ) -> Result<Vec<u8>, AllocError>
     requires { length letters.now ≤ length places.now }
-    ensures { IfOk result (λ text. text.items ≡ concat (shortened all (spec.letter_lines (typed_program program.now) (tree_view.program tree.now) places.now letters.now 0))) }
+    ensures { IfOk result (λ text. text.items ≡ concat (shortened all (spec.letter_lines (typed_program program.now) (tree_view.program tree.now) places.now letters.now 0)) ++ spec.advice cause) }
 {
     let table = table_of(alloc, tree)?;
     let sites = sites_of(alloc, program)?;
+    told_by(alloc, &table, &sites, places, letters, cause, all)
+}
+
+/// The same, by the program's items and by where they stand at its places.
+fn told_by(
+    alloc: Global,
+    table: &Table<'_>,
+    sites: &[Site],
+    places: &[u32],
+    letters: &[Letter],
+    cause: Cause,
+    all: bool,
+) -> Result<Vec<u8>, AllocError>
+    requires { length letters.now ≤ length places.now }
+    ensures { IfOk result (λ text. (t : TypedProgram) (ds : List Declaration) → sites.now ≡ place_sites t → IsTable ds table.now →
+        text.items ≡ concat (shortened all (spec.letter_lines t ds places.now letters.now 0)) ++ spec.advice cause) }
+{
     let mut lines = no_lines(alloc, all);
+    let count = keep_letters(alloc, table, sites, places, letters, &mut lines)?;
+    let mut text = finish(lines, count)?;
+    text.extend_from_slice(advice(cause))?;
+    Ok(text)
+}
+
+/// Keeps the lines of letters that lead along these places, and tells how many they are.
+fn keep_letters(
+    alloc: Global,
+    table: &Table<'_>,
+    sites: &[Site],
+    places: &[u32],
+    letters: &[Letter],
+    lines: &mut Lines,
+) -> Result<u64, AllocError>
+    requires long { length letters.now ≤ length places.now }
+    requires none { Keeps [] lines.old }
+    ensures { IfOk result (λ n. (t : TypedProgram) (ds : List Declaration) → sites.now ≡ place_sites t → IsTable ds table.now → (text : List ℕ) →
+        ((ls : List (List ℕ)) → length ls ≡ n → Keeps ls lines.new → text ≡ concat (shortened lines.new.all ls)) →
+        text ≡ concat (shortened lines.old.all (spec.letter_lines t ds places.now letters.now 0))) }
+{
     let mut count: u64 = 0;
     let mut calls: usize = 0;
     for i in 0..letters.len() {
         let last = i + 1 == letters.len();
         let letter = letter_in(letters, i);
-        let line = place_line(alloc, &table, &sites, place_in(places, i), calls, last)?;
-        count = keep_line(&mut lines, count, line)?;
+        let line = place_line(alloc, table, sites, place_in(places, i), calls, last)?;
+        count = keep_line(lines, count, line)?;
         calls = open_behind(letter.kind, calls);
     }
-    let text = finish(lines, count)?;
-    Ok(text)
+    Ok(count)
 }
 
 /// What to do about a cause.

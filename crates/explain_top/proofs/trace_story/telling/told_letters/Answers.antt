@@ -1,35 +1,11 @@
-use Rattle.std.proofs.Common.{◌∙◌, arith}
-use Rattle.std.specs.Option.{option_map, option_to_list}
+use Rattle.std.proofs.Common.{◌∙◌}
+use Rattle.std.proofs.lemmas.Result.{IfOk-weaker}
 use Rattle.boogie_tree.specs.View as view
 use Rattle.typed_tree.specs.TypingRules.TypedParts.{typed_program}
-use Rattle.explain_top.proofs.TraceStory.TellingLaws.{none_told, one_told, all_told, behind_most, lines_most}
 use Rattle.explain_top.proofs.trace_story.telling.told_letters.Goals as goal
-
-pub loop-i-init : goal.loop-i-init
-loop-i-init c =
-    let t = typed_program c.args.program.now in
-    let ds = view.program c.args.tree.now in
-    record {
-      told = none_told t ds c.args.all c.args.places.now c.args.letters.now c.no_lines-lines.result c.no_lines-lines.ensures.none c.no_lines-lines.ensures.all;
-      opened = omega arith;
-      many = omega arith;
-    }
-
-pub loop-i-preserved : goal.loop-i-preserved
-loop-i-preserved c =
-    let t = typed_program c.args.program.now in
-    let ds = view.program c.args.tree.now in
-    let line = option_to_list (option_map (λ v. v.items) c.in_ok-line.line) in
-    record {
-      told =
-          one_told t ds c.args.all c.args.places.now c.args.letters.now c.loop-i.i c.loop-i.calls c.loop-i.count c.open_behind-calls.result c.loop-i.lines c.keep_line.new.lines c.place_in.result c.letter_in-letter.result line
-          c.loop-i.invariant.told c.loop-i-test.true c.place_in.ensures c.letter_in-letter.ensures (c.in_ok-line.ensures t ds (c.deref.ensures.value ∙ c.in_ok-sites.ensures) c.in_ok-table.ensures) c.open_behind-calls.ensures c.in_ok-count.ensures.kept c.in_ok-count.ensures.all
-          c.in_ok-count.count c.in_ok-count.ensures.count;
-      opened = behind_most c.letter_in-letter.result.kind c.loop-i.calls c.open_behind-calls.result c.loop-i.i c.open_behind-calls.ensures c.loop-i.invariant.opened;
-      many = lines_most (λ v. v.items) c.in_ok-line.line c.loop-i.count c.in_ok-count.count c.loop-i.i c.in_ok-count.ensures.count c.loop-i.invariant.many;
-    }
 
 pub returns : goal.returns
 returns c =
-    all_told (typed_program c.args.program.now) (view.program c.args.tree.now) c.args.all c.args.places.now c.args.letters.now c.loop-i.i c.loop-i.calls c.loop-i.count c.loop-i.lines c.in_ok-text.text.items
-    c.loop-i.invariant.told (omega (arith, c.loop-i-test.false)) c.in_ok-text.ensures
+    IfOk-weaker c.told_by.result _ _
+    (λ text h. h (typed_program c.args.program.now) (view.program c.args.tree.now) (c.deref.ensures.value ∙ c.in_ok-sites.ensures) c.in_ok-table.ensures)
+    c.told_by.ensures

@@ -1,8 +1,10 @@
-use Rattle.std.proofs.Common.{◌∙◌, sym, ap}
+use Rattle.std.proofs.Common.{◌∙◌, refl, sym, ap}
+use Rattle.std.specs.List.{concat}
 use Rattle.boogie_tree.specs.View as view
 use Rattle.typed_tree.specs.TypingRules.TypedParts.{typed_program}
 use Rattle.explain_top.specs.TraceStory.TraceText.{plain}
-use Rattle.explain_top.specs.TraceStory.TraceStory.{letters_of}
+use Rattle.explain_top.specs.RunStory.Texts.{shortened}
+use Rattle.explain_top.specs.TraceStory.TraceStory.{letters_of, letter_lines, advice}
 use Rattle.explain_top.proofs.TraceStory.TraceLaws.{match_some}
 use Rattle.explain_top.proofs.TraceStory.TellingLaws.{has_letters, has_none, none_matched, no_run, run_is_long, story_told}
 use Rattle.explain_top.proofs.trace_story.telling.trace_story.Goals as goal
@@ -34,9 +36,11 @@ told_letters-requires c =
 
 pub returns-clause-told : goal.returns-clause-told
 returns-clause-told c =
-    story_told (typed_program c.args.program.now) (view.program c.args.tree.now) c.args.icfg.now c.args.all (plain c.args.trace.now) c.extend_from_slice.new.self.items c.in_ok-text.text.items c.advice.result.now c.nwa.result.now
-    c.in-Some.letters.items _ c.letters.result.now c.in-Some-2.places.items c.deref-2.result.now
+    let t = typed_program c.args.program.now in
+    let ds = view.program c.args.tree.now in
+    story_told t ds c.args.icfg.now c.args.all (plain c.args.trace.now) c.in_ok-told_letters.field-0.items (concat (shortened c.args.all (letter_lines t ds c.deref-2.result.now c.letters.result.now 0)))
+    (advice c.args.trace.now.cause) c.nwa.result.now c.in-Some.letters.items _ c.letters.result.now c.in-Some-2.places.items c.deref-2.result.now
     (ap (letters_of c.args.icfg.now) (sym c.deref.ensures.value)
     ∙ has_letters (λ v. v.items) c.in_ok-letters.field-0 c.in-Some.letters (letters_of c.args.icfg.now c.deref.result.now) c.in-Some.is c.in_ok-letters.ensures)
-    c.nwa.ensures.value c.in-Some-word.ensures.value (match_some c.in_ok-places.field-0 _ _ c.in-Some-2.places c.in-Some-2.is c.in_ok-places.ensures) c.deref-2.ensures.value c.letters.ensures.value c.in_ok-text.ensures
-    c.advice.ensures c.in_ok-extend_from_slice.ensures.items
+    c.nwa.ensures.value c.in-Some-word.ensures.value (match_some c.in_ok-places.field-0 _ _ c.in-Some-2.places c.in-Some-2.is c.in_ok-places.ensures) c.deref-2.ensures.value c.letters.ensures.value refl
+    refl c.in_ok-told_letters.ensures
