@@ -39,10 +39,17 @@ pub(crate) fn kept_behind(
 fn after_refusal<G: Gate>(gate: &G, number: u32, refused: Refused<Certified>) -> Turn
     ensures { result ≡ turn_after refused.why refused.entry }
 {
-    let Refused { why, entry, .. } = refused;
+    let Refused { why, entry, kept } = refused;
+    drop(kept);
     match why {
-        Why::Ended(_) => Turn::Over,
-        Why::Full { .. } => Turn::Again(None),
+        Why::Ended(_) => {
+            drop(entry);
+            Turn::Over
+        }
+        Why::Full { .. } => {
+            drop(entry);
+            Turn::Again(None)
+        }
         Why::Stale { .. } => {
             gate.at(number, Moment::Stale);
             Turn::Again(Some(entry))
@@ -97,7 +104,10 @@ pub(crate) fn offer<G: Gate + Sync, R: Wait>(
     ensures pass { IsPassAt job.now.cell.now (typed_program job.now.program.now) job.now.limits pass.old.shares pass.new }
     ensures turn { IfOk result (Offers pass.old pass.new entry) }
 {
-    let kept = kept_behind(alloc, &snapshot.kept, &entry)?;
+    let Ok(kept) = kept_behind(alloc, &snapshot.kept, &entry) else {
+        drop(entry);
+        return Err(AllocError);
+    };
     job.gate.at(number, Moment::Built);
     Ok(publish(rt, job, number, pass, snapshot.version, entry, kept))
 }

@@ -41,9 +41,14 @@ fn still_kept(
     let Some(entry) = carried else {
         return Ok(None);
     };
-    if accepts(alloc, kept, &entry.word)? {
+    let Ok(is_kept) = accepts(alloc, kept, &entry.word) else {
+        drop(entry);
+        return Err(AllocError);
+    };
+    if is_kept {
         Ok(Some(entry))
     } else {
+        drop(entry);
         Ok(None)
     }
 }
@@ -134,8 +139,12 @@ pub(crate) fn round<G: Gate + Sync, R: Threads + Wait + Sync>(
     ensures turn { IfOk result (Pursues (typed_program job.now.program.now) pass.old pass.new carried) }
 {
     job.gate.at(number, Moment::Reading);
-    let snapshot = job.cell.read(rt, pass)?;
+    let Ok(snapshot) = job.cell.read(rt, pass) else {
+        drop(carried);
+        return Err(AllocError);
+    };
     if snapshot.ended.is_some() {
+        drop(carried);
         return Ok(Turn::Over);
     }
     pursue(rt, alloc, job, number, pass, seeker, &snapshot, carried)

@@ -9,8 +9,8 @@ use Rattle.race_workers.proofs.rounds.round.Goals as goal
 pub read-requires-clause-cell : goal.read-requires-clause-cell
 read-requires-clause-cell g c κs within = c.requires.pass.of_cell
 
-pub returns-in_err-snapshot-clause-pass : goal.returns-in_err-snapshot-clause-pass
-returns-in_err-snapshot-clause-pass g c =
+pub returns-in_default-clause-pass : goal.returns-in_default-clause-pass
+returns-in_default-clause-pass g c =
     reads c.args.job.now.cell.now (typed_program c.args.job.now.program.now) c.args.job.now.limits c.args.pass.now.shares c.args.pass.now c.read.new.pass
     c.requires.pass c.read.ensures.of_cell c.read.ensures.moment
 
@@ -21,7 +21,7 @@ returns-then-is_some-clause-pass g c =
 
 pub returns-then-is_some-clause-turn : goal.returns-then-is_some-clause-turn
 returns-then-is_some-clause-turn g c =
-    let s : IsSome c.read.new.pass.ended = subst (λ (x : Option EndKind). IsSome x) c.in_ok-snapshot.ensures.snapshot.1 (search rules) in
+    let s : IsSome c.read.new.pass.ended = subst (λ (x : Option EndKind). IsSome x) c.in-Ok.ensures.snapshot.1 (search rules) in
     over (typed_program c.args.job.now.program.now) c.args.pass.now c.read.new.pass c.args.carried s
 
 pub pursue-requires-clause-job : goal.pursue-requires-clause-job
@@ -34,7 +34,7 @@ pursue-requires-clause-pass g c κs within =
     c.requires.pass c.read.ensures.of_cell c.read.ensures.moment)
 
 pub pursue-requires-clause-seen : goal.pursue-requires-clause-seen
-pursue-requires-clause-seen g c κs within = let s = c.in_ok-snapshot.ensures.snapshot in (s.0, s.2)
+pursue-requires-clause-seen g c κs within = let s = c.in-Ok.ensures.snapshot in (s.0, s.2)
 
 pub pursue-requires-clause-carried : goal.pursue-requires-clause-carried
 pursue-requires-clause-carried g c κs within = c.requires.carried
