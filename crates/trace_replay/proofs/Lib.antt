@@ -13,6 +13,7 @@ pub mod ReplayRuns
 pub mod ReplayTurns
 pub mod ReplayLaws
 pub mod ReplaySteps
+mod FirstSteps
 pub mod GuessedSteps
 pub mod ReplayCode
 pub mod ReplayFound

@@ -1,10 +1,11 @@
-use Rattle.std.proofs.Common.{◌+◌, arith}
+use Rattle.std.proofs.Common.{◌+◌, ap, arith}
 use Rattle.typed_tree.specs.TypingRules.TypedParts.{typed_program}
 use Rattle.boogie_run.specs.RunView.{config_of}
 use Rattle.trace_replay.specs.declared.causes.ReplayCause.TheVariants.{Short, BadChoice}
 use Rattle.trace_replay.specs.FailureText.{numbers}
 use Rattle.trace_replay.proofs.ReplaySteps.{one_more_made}
 use Rattle.trace_replay.proofs.ReplayFound.{found_here, found_is, found_does_not_stop, halts_here, early_here, runs_out, stop_does_not_replay, stop_is}
+use Rattle.trace_replay.proofs.FirstSteps.{none_made}
 use Rattle.trace_replay.proofs.replaying.replay.Goals as goal
 
 pub returns-in-Fails-clause-found : goal.returns-in-Fails-clause-found
@@ -90,3 +91,10 @@ returns-clause-stops c =
     stop_is (typed_program c.args.program.now) c.args.trail.now.steps (numbers c.args.trail.now.choices.items) c.args.trail.now.steps Short
     (runs_out (typed_program c.args.program.now) c.args.trail.now.steps (numbers c.args.trail.now.choices.items)
     c.loop-made.made (config_of c.loop-made.config) (numbers c.loop-made.left.now) (omega arith) c.loop-made.invariant.made)
+
+pub loop-made-init : goal.loop-made-init
+loop-made-init c = record {
+  made = none_made (typed_program c.args.program.now) (numbers c.args.trail.now.choices.items) (numbers c.as_slice-left.result.now) (config_of c.in_ok-config.config) c.in_ok-config.ensures.start
+      (ap numbers c.as_slice-left.ensures.value);
+  fits = c.in_ok-config.ensures.fits;
+}

@@ -1,4 +1,4 @@
-use Rattle.std.proofs.Common.{◌+◌, sym, subst, arith}
+use Rattle.std.proofs.Common.{◌+◌, refl, sym, subst, arith}
 use Rattle.typed_tree.specs.TypingRules.TypedParts.{typed_program}
 use Rattle.boogie_run.specs.RunView.{config_of}
 use Rattle.trace_replay.specs.declared.causes.ReplayCause.{ReplayCause}
@@ -7,6 +7,7 @@ use Rattle.trace_replay.specs.FailureText.{numbers}
 use Rattle.trace_replay.specs.ReplayAnswers.{IsTriedFault}
 use Rattle.trace_replay.proofs.ReplaySteps.{one_more_made}
 use Rattle.trace_replay.proofs.TriedHere.{fails_last, fails_early, left_within, halts_tried, all_made}
+use Rattle.trace_replay.proofs.FirstSteps.{none_made}
 use Rattle.trace_replay.proofs.trying.tried.Goals as goal
 
 pub returns-in-Fails-clause-fails : goal.returns-in-Fails-clause-fails
@@ -41,3 +42,9 @@ loop-made-preserved c = record {
 pub returns-clause-fault : goal.returns-clause-fault
 returns-clause-fault c =
     all_made (typed_program c.args.program.now) c.args.steps (numbers c.args.choices.now) c.loop-made.made (config_of c.loop-made.config) (numbers c.loop-made.left.now) (omega arith) c.loop-made.invariant.made
+
+pub loop-made-init : goal.loop-made-init
+loop-made-init c = record {
+  made = none_made (typed_program c.args.program.now) (numbers c.args.choices.now) (numbers c.args.choices.now) (config_of c.in_ok-config.config) c.in_ok-config.ensures.start refl;
+  fits = c.in_ok-config.ensures.fits;
+}
