@@ -190,6 +190,5 @@ pub(crate) fn positions_of(
     ensures fits { AllByRecursion Fits point.now → IfOk result (λ v. AllByRecursion PositionFits (plain_positions v.items)) }
 {
     let path = rows_of(alloc, icfg, word)?;
-    let found = read_positions(alloc, icfg, word.letters(), path.states(), run, point)?;
-    Ok(found)
+    read_positions(alloc, icfg, word.letters(), path.states(), run, point)
 }

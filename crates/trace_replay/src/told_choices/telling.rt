@@ -170,6 +170,5 @@ pub fn told_choices(
     let _globals = program.globals();
     let kinds = kinds_of(alloc, program, icfg)?;
     let positions = positions_of(alloc, icfg, word, run, point)?;
-    let told = all_choices(alloc, program, &kinds, icfg.nwa(), &positions)?;
-    Ok(told)
+    all_choices(alloc, program, &kinds, icfg.nwa(), &positions)
 }

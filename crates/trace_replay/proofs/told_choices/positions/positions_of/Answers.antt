@@ -4,6 +4,7 @@ use Rattle.nwa_base.proofs.RunLemmas.{run_accepts}
 use Rattle.lin_rows.specs.Points.{point_of}
 use Rattle.path_rows.specs.Paths.{path_of}
 use Rattle.trace_replay.specs.PathTraces.Solved.{next_positions}
+use Rattle.trace_replay.proofs.ToldSites.{if_ok}
 use Rattle.trace_replay.proofs.ToldChoices.ReadLetters.{run_many}
 use Rattle.trace_replay.proofs.told_choices.positions.positions_of.Goals as goal
 
@@ -25,4 +26,5 @@ read_positions-requires-clause-run c =
 
 pub returns-clause-value : goal.returns-clause-value
 returns-clause-value c =
-    c.in_ok-found.ensures.value ∙ ap (λ (w : List Letter). next_positions (point_of c.args.point.now) c.args.icfg.now w c.args.run.now) c.letters.ensures.value
+    if_ok _ _ c.read_positions.result
+    (λ v so. so ∙ ap (λ (w : List Letter). next_positions (point_of c.args.point.now) c.args.icfg.now w c.args.run.now) c.letters.ensures.value) c.read_positions.ensures.value

@@ -12,6 +12,7 @@ use Rattle.lowered_graph.specs.LoweredChoices.Choices.{trace_choices}
 use Rattle.trace_replay.specs.PathTraces.Solved.{next_positions}
 use Rattle.trace_replay.specs.ToldChoices.Telling.{all_choices}
 use Rattle.trace_replay.specs.ToldChoices.Ties.Views.{plain_kinds, plain_positions}
+use Rattle.trace_replay.proofs.ToldSites.{if_ok}
 use Rattle.trace_replay.proofs.ToldChoices.Told.{all_told}
 use Rattle.trace_replay.proofs.told_choices.telling.told_choices.Goals as goal
 
@@ -34,6 +35,7 @@ returns-clause-value c =
     let kinds = ap plain_kinds c.deref.ensures.value ∙ c.in_ok-kinds.ensures in
     let insides = ap (λ (m : Automaton). m.insides) (c.nwa.ensures.value ∙ ap (λ (h : Graph). h.automaton) is) in
     let positions = ap plain_positions c.deref-2.ensures.value ∙ c.in_ok-positions.ensures.value ∙ ap (λ (h : Graph). next_positions point h c.args.word.now c.args.run.now) is in
-    c.in_ok-told.ensures.value ∙ (λ i. all_choices t (kinds i) (insides i) (positions i))
+    let found = (λ i. all_choices t (kinds i) (insides i) (positions i))
     ∙ all_told laws t c.globals-globals.ensures.valid graph point c.args.word.now c.args.run.now run
-    ∙ ap (λ (h : Graph). trace_choices t (next_positions point h c.args.word.now c.args.run.now)) (sym is)
+    ∙ ap (λ (h : Graph). trace_choices t (next_positions point h c.args.word.now c.args.run.now)) (sym is) in
+    if_ok _ _ c.all_choices.result (λ v so. so ∙ found) c.all_choices.ensures.value
