@@ -1,6 +1,6 @@
 //! What places of a program choose.
 
-ghost use Rattle.std.specs.Prelude.{◌≡◌, ◌-◌, ◌++◌, OnOk, slice_get};
+ghost use Rattle.std.specs.Prelude.{◌≡◌, ◌-◌, ◌∷◌, ◌++◌, [], OnOk, slice_get};
 ghost use Rattle.std.specs.Option.{option_map};
 ghost use Rattle.trace_replay.specs.ToldChoices.Ties.Walks as walks;
 ghost use Rattle.trace_replay.specs.ToldChoices.Ties.Views.{plain_kind, plain_kinds};
@@ -29,12 +29,20 @@ pub(crate) fn kind_at(kinds: &[Kind], place: u32) -> Option<&Kind>
     kinds.get(place.saturating_sub(1) as usize)
 }
 
+/// Adds a place that chooses this.
+pub(crate) fn add(kinds: &mut Vec<Kind>, kind: Kind) -> Result<(), AllocError>
+    ensures { OnOk result (plain_kinds kinds.new.items ≡ plain_kinds kinds.old.items ++ plain_kind kind ∷ []) }
+{
+    kinds.push(kind)?;
+    Ok(())
+}
+
 /// Adds so many places that choose nothing.
 pub(crate) fn add_silent(kinds: &mut Vec<Kind>, count: usize) -> Result<(), AllocError>
     ensures { OnOk result (plain_kinds kinds.new.items ≡ plain_kinds kinds.old.items ++ walks.silent count) }
 {
     for _i in 0..count {
-        kinds.push(Kind::Silent)?;
+        add(kinds, Kind::Silent)?;
     }
     Ok(())
 }

@@ -7,7 +7,7 @@ ghost use Rattle.trace_replay.specs.ToldChoices.Ties.Walks as walks;
 ghost use Rattle.trace_replay.specs.ToldChoices.Ties.Views.{plain_kind, plain_kinds};
 
 use crate::told_choices::columns::{column_number, column_numbers};
-use crate::told_choices::kinds::{Kind, add_silent};
+use crate::told_choices::kinds::{Kind, add, add_silent};
 use boogie_run::boogie_points::counts::{demanded, granted};
 use boogie_run::boogie_points::procedure_at;
 use boogie_tree::{Column, VarInfo};
@@ -23,7 +23,7 @@ fn add_guesses(
     ensures { OnOk result (plain_kinds kinds.new.items ≡ plain_kinds kinds.old.items ++ map (walks.guess frame.now) columns.now) }
 {
     for column in columns {
-        kinds.push(Kind::Guesses(column_number(frame, *column)))?;
+        add(kinds, Kind::Guesses(column_number(frame, *column)))?;
     }
     Ok(())
 }
@@ -78,12 +78,10 @@ fn add_call(
     ensures { OnOk result (plain_kinds kinds.new.items ≡ plain_kinds kinds.old.items ++ walks.call_kinds frame.now (slice_get (map view.procedure procs.now) callee) callee targets.now.items (map view.expression args.now)) }
 {
     let Some(called) = procedure_at(procs, callee) else {
-        kinds.push(Kind::Silent)?;
-        return Ok(());
+        return add(kinds, Kind::Silent);
     };
     add_silent(kinds, demanded(&called.specs))?;
-    kinds.push(called_kind(frame, called, callee, targets, args)?)?;
-    Ok(())
+    add(kinds, called_kind(frame, called, callee, targets, args)?)
 }
 
 /// A statement. It recurses as deep as statements are nested, as dropping one does.
@@ -102,19 +100,16 @@ fn add_statement(
             add_call(kinds, procs, frame, *callee, targets, args)
         }
         TStmt::If(_, guard, then, otherwise) => {
-            kinds.push(guard_kind(guard))?;
+            add(kinds, guard_kind(guard))?;
             add_block(kinds, procs, frame, then)?;
             add_block(kinds, procs, frame, otherwise)
         }
         TStmt::While(_, guard, conditions, body) => {
             add_silent(kinds, conditions.len())?;
-            kinds.push(guard_kind(guard))?;
+            add(kinds, guard_kind(guard))?;
             add_block(kinds, procs, frame, body)
         }
-        TStmt::Goto(_, labels) => {
-            kinds.push(goto_kind(labels))?;
-            Ok(())
-        }
+        TStmt::Goto(_, labels) => add(kinds, goto_kind(labels)),
         TStmt::Label(_) => Ok(()),
         TStmt::Assert(_, _) | TStmt::Assume(_, _) | TStmt::Assign(_, _, _) => add_silent(kinds, 1),
         TStmt::Break(_, _) | TStmt::Return(_) => add_silent(kinds, 1),
