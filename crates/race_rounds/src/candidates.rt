@@ -11,8 +11,7 @@ const SMALL_NUMBERS: [i128; 6] = [1, -1, 2, -2, 0, 3];
 
 /// Adds a number that is none of them yet, where there is room.
 fn add(candidates: &mut Vec<i128>, number: i128) -> Result<(), AllocError> {
-    let is_new = candidates.iter().all(|other| *other != number);
-    if is_new && candidates.len() < MOST_CANDIDATES {
+    if !candidates.contains(&number) && candidates.len() < MOST_CANDIDATES {
         candidates.push(number)?;
     }
     Ok(())

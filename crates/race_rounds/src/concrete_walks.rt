@@ -15,3 +15,4 @@ mod walkers;
 mod walks;
 
 pub use walkers::Walker;
+pub(crate) use walks::if_accepted;

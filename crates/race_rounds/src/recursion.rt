@@ -36,20 +36,30 @@ fn close(returned: &mut [u32], opened: Opened) -> bool {
 /// Whether a returned call lies within a returned call of the same procedure.
 pub(crate) fn is_recursive(alloc: Global, icfg: &Icfg, word: &Word) -> Result<bool, AllocError> {
     let mut returned = vec![in alloc; 0u32; icfg.names().len()]?;
-    let mut open: Vec<Opened> = Vec::new(alloc);
-    for letter in word.letters() {
+    let mut open = Vec::new(alloc);
+    recurs(icfg, word.letters(), &mut returned, &mut open)
+}
+
+/// The same of letters, where no call is open and none has returned.
+fn recurs(
+    icfg: &Icfg,
+    letters: &[Letter],
+    returned: &mut [u32],
+    open: &mut Vec<Opened>,
+) -> Result<bool, AllocError> {
+    for letter in letters {
         match letter.kind {
             Kind::Inside => {}
             Kind::Call => {
                 let callee = callee_of(icfg, *letter);
                 open.push(Opened {
                     callee,
-                    returned: count_of(&returned, callee),
+                    returned: count_of(returned, callee),
                 })?;
             }
             Kind::Back => {
                 if let Some(opened) = open.pop() {
-                    if close(&mut returned, opened) {
+                    if close(returned, opened) {
                         return Ok(true);
                     }
                 }

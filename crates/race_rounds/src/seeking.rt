@@ -1,15 +1,14 @@
 //! Kept words.
 
-ghost use Rattle.std.specs.Prelude.{IfOk, IfSome};
-ghost use Rattle.nwa_base.specs.Acceptance.{Accepts};
+ghost use Rattle.std.specs.Prelude.{IfOk};
 ghost use Rattle.nwa_emptiness.specs.Found.{IsFound};
 
-use crate::concrete_walks::Walker;
+use crate::concrete_walks::{Walker, if_accepted};
 use crate::deviating::deviating;
 use crate::limits::Round;
 use crate::plans::moves_of;
 use letter_acts::Icfg;
-use nwa_base::{Nwa, Word, accepts};
+use nwa_base::{Nwa, Word};
 use nwa_emptiness::{Found, find};
 use std::alloc::{AllocError, Global};
 
@@ -56,22 +55,6 @@ impl Seeker {
     }
 }
 
-/// The word, where it is kept.
-fn if_kept(alloc: Global, kept: &Nwa, word: Option<Word>) -> Result<Option<Word>, AllocError>
-    ensures { IfOk result (λ o. IfSome o (Accepts kept.now)) }
-{
-    match word {
-        Some(word) => {
-            if accepts(alloc, kept, &word)? {
-                Ok(Some(word))
-            } else {
-                Ok(None)
-            }
-        }
-        None => Ok(None),
-    }
-}
-
 /// A kept word: one that the seeker proposes, else one that is found, or that no word is kept. Workers with
 /// different numbers look for different words.
 pub fn kept_word(
@@ -85,7 +68,7 @@ pub fn kept_word(
 {
     let moves = moves_of(icfg.nwa(), round);
     let walked = seeker.walked(alloc, icfg, moves)?;
-    if let Some(word) = if_kept(alloc, kept, walked)? {
+    if let Some(word) = if_accepted(alloc, kept, walked)? {
         return Ok(Found::Word(word));
     }
     let word = match find(alloc, kept, round.worker)? {
@@ -93,7 +76,7 @@ pub fn kept_word(
         Found::Empty => return Ok(Found::Empty),
     };
     let other = deviating(alloc, kept, &word, round)?;
-    match if_kept(alloc, kept, other)? {
+    match if_accepted(alloc, kept, other)? {
         Some(other) => Ok(Found::Word(other)),
         None => Ok(Found::Word(word)),
     }

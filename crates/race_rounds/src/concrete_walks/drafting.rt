@@ -19,8 +19,8 @@ struct Draft<'a> {
     done: Vec<bool>,
     /// How many columns the frame has.
     known: usize,
-    /// The types of the columns behind it, and whether they have no number yet.
-    sought: Vec<(Ty, bool)>,
+    /// The types of the columns behind it, whether they had no number at first, and whether they have none yet.
+    sought: Vec<(Ty, bool, bool)>,
 }
 
 /// Which columns of a row have no number yet.
@@ -44,7 +44,7 @@ impl<'a> Draft<'a> {
 
     /// Seeks one column more, which has a number already or not.
     fn seek(&mut self, ty: Ty, is_open: bool) -> Result<(), AllocError> {
-        self.sought.push((ty, is_open))?;
+        self.sought.push((ty, is_open, is_open))?;
         Ok(())
     }
 
@@ -66,7 +66,7 @@ impl<'a> Draft<'a> {
         let mut open = Open::Nothing;
         for &(column, coefficient) in row.terms() {
             if let Some(place) = (column as usize).checked_sub(self.known) {
-                if !matches!(self.sought.get(place), Some((_, false))) {
+                if !matches!(self.sought.get(place), Some((_, _, false))) {
                     open = match open {
                         Open::Nothing => Open::One(place, coefficient),
                         _ => Open::Several,
@@ -80,7 +80,7 @@ impl<'a> Draft<'a> {
     /// Notes that a column has its number.
     fn close(&mut self, place: usize) {
         if let Some(sought) = self.sought.get_mut(place) {
-            sought.1 = false;
+            sought.2 = false;
         }
     }
 
@@ -91,8 +91,52 @@ impl<'a> Draft<'a> {
         }
     }
 
-    /// Adds the steps of a letter, and answers what it does, which has these moves.
-    fn form(&mut self, letters: &mut Letters, kind: Kind, moves: Span) -> Result<Form, AllocError> {
+    /// Seeks what an inside letter seeks, and adds its moves and its steps.
+    fn inside(
+        &mut self,
+        letters: &mut Letters,
+        frame: &Frame,
+        written: &[u32],
+        helpers: u32,
+    ) -> Result<Form, AllocError> {
+        let first = letters.moves.len();
+        for (place, &column) in written.iter().enumerate() {
+            let column = column as usize;
+            letters.moves.push((self.column(place), column))?;
+            let ty = match frame.columns.get(column) {
+                Some(known) => known.1.ty,
+                None => Ty::Int,
+            };
+            self.seek(ty, true)?;
+        }
+        let moves = Span::new(first, letters.moves.len());
+        self.form(letters, Kind::Inside, helpers, moves)
+    }
+
+    /// Seeks what a call seeks, and adds its steps.
+    fn call(
+        &mut self,
+        letters: &mut Letters,
+        callee: Callee,
+        helpers: u32,
+    ) -> Result<Form, AllocError> {
+        for (column, info) in &callee.frame.columns {
+            let is_open = matches!(column, Column::Local(_)) && info.constant;
+            self.seek(info.ty, is_open)?;
+        }
+        let none = Span::new(0, 0);
+        self.form(letters, Kind::Call(callee.procedure), helpers, none)
+    }
+
+    /// Seeks the helpers of a letter, adds its steps, and answers what it does, which has these moves.
+    fn form(
+        &mut self,
+        letters: &mut Letters,
+        kind: Kind,
+        helpers: u32,
+        moves: Span,
+    ) -> Result<Form, AllocError> {
+        self.seek_helpers(helpers)?;
         let first = letters.steps.len();
         self.add_steps(letters)?;
         Ok(Form {
@@ -106,7 +150,6 @@ impl<'a> Draft<'a> {
 
     /// Adds steps until each column has its number and each row is tested.
     fn add_steps(&mut self, letters: &mut Letters) -> Result<(), AllocError> {
-        let booleans = self.open_booleans(*self.done.allocator())?;
         // each turn but the last gives a column its number
         for _ in 0..=self.sought.len() {
             if self.follow(letters)? {
@@ -117,21 +160,13 @@ impl<'a> Draft<'a> {
             };
             self.choose(letters, place)?;
         }
-        for &column in booleans.as_slice() {
-            letters.steps.push(Step::IsBoolean { column })?;
-        }
-        Ok(())
-    }
-
-    /// The boolean columns that have no number yet.
-    fn open_booleans(&self, alloc: Global) -> Result<Vec<usize>, AllocError> {
-        let mut columns = Vec::new(alloc);
-        for (place, &(ty, is_open)) in self.sought.iter().enumerate() {
-            if is_open && ty == Ty::Bool {
-                columns.push(self.column(place))?;
+        for (place, &(ty, was_open, _)) in self.sought.iter().enumerate() {
+            if was_open && ty == Ty::Bool {
+                let column = self.column(place);
+                letters.steps.push(Step::IsBoolean { column })?;
             }
         }
-        Ok(columns)
+        Ok(())
     }
 
     /// Adds the steps by which equalities give columns their numbers, and tests of rows whose columns all have numbers. Answers
@@ -156,33 +191,25 @@ impl<'a> Draft<'a> {
         number: usize,
         row: &Row,
     ) -> Result<bool, AllocError> {
-        match (self.open(row), row.kind()) {
-            (Open::Nothing, kind) => {
-                let rest = add_rest(letters, row, None)?;
-                let says = match kind {
-                    RowKind::Le => Says::NotNegative,
-                    RowKind::Eq => Says::Zero,
-                };
-                let step = row_step(letters, rest, says);
-                letters.steps.push(step)?;
-                self.finish(number);
-                Ok(false)
-            }
+        let (forced, says) = match (self.open(row), row.kind()) {
+            (Open::Nothing, RowKind::Le) => (None, Says::NotNegative),
+            (Open::Nothing, RowKind::Eq) => (None, Says::Zero),
             (Open::One(place, coefficient), RowKind::Eq) => {
                 let column = self.column(place);
-                let rest = add_rest(letters, row, Some(column))?;
+                self.close(place);
                 let says = Says::Forces {
                     column,
                     coefficient,
                 };
-                let step = row_step(letters, rest, says);
-                letters.steps.push(step)?;
-                self.finish(number);
-                self.close(place);
-                Ok(true)
+                (Some(column), says)
             }
-            _ => Ok(false),
-        }
+            _ => return Ok(false),
+        };
+        let rest = add_rest(letters, row, forced)?;
+        let step = row_step(letters, rest, says);
+        letters.steps.push(step)?;
+        self.finish(number);
+        Ok(forced.is_some())
     }
 
     /// The place of a column without a number: one that is alone in a row if there is one, else the first.
@@ -192,7 +219,12 @@ impl<'a> Draft<'a> {
                 return Some(place);
             }
         }
-        self.sought.iter().position(|column| column.1)
+        for (place, column) in self.sought.iter().enumerate() {
+            if column.2 {
+                return Some(place);
+            }
+        }
+        None
     }
 
     /// Adds the step that gives a column a number within the bounds of the inequalities in which it is alone, if there are any.
@@ -201,7 +233,10 @@ impl<'a> Draft<'a> {
         self.add_bounds(letters, place)?;
         let bounds = Span::new(first, letters.bounds.len());
         let column = self.column(place);
-        let ty = self.sought.get(place).map_or(Ty::Int, |sought| sought.0);
+        let ty = match self.sought.get(place) {
+            Some(sought) => sought.0,
+            None => Ty::Int,
+        };
         letters.steps.push(if bounds.is_empty() {
             Step::Free { column, ty }
         } else {
@@ -317,20 +352,8 @@ pub(crate) fn add_inside(
     helpers: u32,
     rows: &[Row],
 ) -> Result<Form, AllocError> {
-    let first = letters.moves.len();
     let mut draft = Draft::new(alloc, rows, frame.columns.len())?;
-    for (place, &column) in written.iter().enumerate() {
-        let column = column as usize;
-        letters.moves.push((draft.column(place), column))?;
-        let ty = frame
-            .columns
-            .get(column)
-            .map_or(Ty::Int, |known| known.1.ty);
-        draft.seek(ty, true)?;
-    }
-    draft.seek_helpers(helpers)?;
-    let moves = Span::new(first, letters.moves.len());
-    draft.form(letters, Kind::Inside, moves)
+    draft.inside(letters, frame, written, helpers)
 }
 
 /// A procedure, as its calls and returns see it.
@@ -369,15 +392,8 @@ pub(crate) fn add_call(
     helpers: u32,
     rows: &[Row],
 ) -> Result<Form, AllocError> {
-    let first = letters.moves.len();
     let mut draft = Draft::new(alloc, rows, caller.columns.len())?;
-    for (column, info) in &callee.frame.columns {
-        let is_open = matches!(column, Column::Local(_)) && info.constant;
-        draft.seek(info.ty, is_open)?;
-    }
-    draft.seek_helpers(helpers)?;
-    let none = Span::new(first, first);
-    draft.form(letters, Kind::Call(callee.procedure), none)
+    draft.call(letters, callee, helpers)
 }
 
 /// What a return does: it moves the results of the callee.

@@ -160,10 +160,15 @@ impl Edges {
 
 /// Those returns whose place before the call is that one.
 fn backs_after(backs: &[(u32, Edge)], before: u32) -> &[(u32, Edge)] {
-    let first = backs.partition_point(|back| back.0 < before);
+    let first = count_below(backs, before);
     let rest = backs.get(first..).unwrap_or(&[]);
-    let count = rest.partition_point(|back| back.0 == before);
+    let count = count_below(rest, before.saturating_add(1));
     rest.get(..count).unwrap_or(&[])
+}
+
+/// How many of these returns have a place before the call that is below a number.
+fn count_below(backs: &[(u32, Edge)], number: u32) -> usize {
+    backs.partition_point(|back| back.0 < number)
 }
 
 /// The edge by a letter to a place.

@@ -194,11 +194,12 @@ impl Letters {
     /// Adds what is done at the start of a program, and what each of its letters does.
     pub fn add_all(&mut self, alloc: Global, icfg: &Icfg) -> Result<(), AllocError> {
         self.add_procedures(icfg.frames())?;
-        let proc = item(icfg.place_procs(), icfg.nwa().start());
-        if let Some(frame) = proc.and_then(|proc| item(icfg.frames(), *proc)) {
-            let form = add_start(self, frame)?;
-            self.widest = self.widest.max(form.all);
-            self.start = Some(form);
+        if let Some(proc) = item(icfg.place_procs(), icfg.nwa().start()) {
+            if let Some(frame) = item(icfg.frames(), *proc) {
+                let form = add_start(self, frame)?;
+                self.widest = self.widest.max(form.all);
+                self.start = Some(form);
+            }
         }
         for act in icfg.acts() {
             let form = self.formed(alloc, icfg, act)?;

@@ -1,6 +1,7 @@
 //! Walks without loops. A walk that stands twice in the same situation can leave out the letters between, and a short word costs much
 //! less to decide than a long one.
 
+use crate::concrete_walks::letters::{Span, members};
 use nwa_base::Letter;
 use std::alloc::{AllocError, Global};
 use std::collections::HashMap;
@@ -24,8 +25,10 @@ pub(crate) struct Passed {
     places: Vec<usize>,
     /// The last place of each situation.
     last: Vec<usize>,
-    /// What was made for the start and for each letter.
-    made: Vec<Vec<i128>>,
+    /// What was made for the start and for each letter, one after the other.
+    pub made: Vec<i128>,
+    /// Where that stands.
+    parts: Vec<Span>,
 }
 
 impl Passed {
@@ -36,12 +39,17 @@ impl Passed {
             places: Vec::new(alloc),
             last: Vec::new(alloc),
             made: Vec::new(alloc),
+            parts: Vec::new(alloc),
         }
     }
 
-    /// Adds the next place: what the situation there is mixed to, and the numbers that were made for the start or the letter before it.
-    pub fn add(&mut self, situation: i128, made: Vec<i128>) -> Result<(), AllocError> {
-        self.made.push(made)?;
+    /// Adds the next place: what the situation there is mixed to. The numbers that were made for the start or the letter before it are there.
+    pub fn add(&mut self, situation: i128) -> Result<(), AllocError> {
+        let first = match self.parts.last() {
+            Some(before) => before.end,
+            None => 0,
+        };
+        self.parts.push(Span::new(first, self.made.len()))?;
         let place = self.places.len();
         if let Some(&number) = self.numbers.get(&situation) {
             if let Some(last) = self.last.get_mut(number) {
@@ -85,8 +93,8 @@ impl Passed {
 
     /// Adds the numbers that were made for the letter before a place.
     fn add_made(&self, place: usize, numbers: &mut Vec<i128>) -> Result<(), AllocError> {
-        if let Some(made) = self.made.get(place) {
-            numbers.extend_from_slice(made.as_slice())?;
+        if let Some(part) = self.parts.get(place) {
+            numbers.extend_from_slice(members(&self.made, *part))?;
         }
         Ok(())
     }

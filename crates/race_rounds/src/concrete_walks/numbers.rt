@@ -53,37 +53,38 @@ impl Numbers {
         mix
     }
 
-    /// The numbers that the start makes: one for each column of its frame.
-    pub fn made_at_start(&self, alloc: Global, letters: &Letters) -> Result<Vec<i128>, AllocError> {
-        let mut made = Vec::new(alloc);
-        if let Some(form) = letters.start() {
-            self.add_made(0, form.all, &mut made)?;
+    /// Adds the numbers that the start makes: one for each column of its frame.
+    pub fn add_made_at_start(
+        &self,
+        letters: &Letters,
+        made: &mut Vec<i128>,
+    ) -> Result<(), AllocError> {
+        match letters.start() {
+            Some(form) => self.add_made(0, form.all, made),
+            None => Ok(()),
         }
-        Ok(made)
     }
 
-    /// The numbers that a letter has made which was taken just now, in the order of the columns that it makes in the rows of a word: an
-    /// inside letter makes what it writes, and its helpers; a call the locals of the callee, the helpers, and the callee's old columns.
-    pub fn made_by(
+    /// Adds the numbers that a letter has made which was taken just now, in the order of the columns that it makes in the rows of a word:
+    /// an inside letter makes what it writes, and its helpers; a call the locals of the callee, the helpers, and the callee's old columns.
+    pub fn add_made_by(
         &self,
-        alloc: Global,
         letters: &Letters,
         letter: u32,
-    ) -> Result<Vec<i128>, AllocError> {
-        let mut made = Vec::new(alloc);
+        made: &mut Vec<i128>,
+    ) -> Result<(), AllocError> {
         let Some(form) = letters.form(letter) else {
-            return Ok(made);
+            return Ok(());
         };
         match &form.kind {
-            Kind::Inside => self.add_made(form.known, form.all, &mut made)?,
+            Kind::Inside => self.add_made(form.known, form.all, made),
             Kind::Call(callee) => {
                 let locals = letters.locals(callee);
-                self.add_made(locals, form.all.saturating_sub(form.known), &mut made)?;
-                self.add_made(callee.globals.len(), locals, &mut made)?;
+                self.add_made(locals, form.all.saturating_sub(form.known), made)?;
+                self.add_made(callee.globals.len(), locals, made)
             }
-            Kind::Back(_) | Kind::Missing => {}
+            Kind::Back(_) | Kind::Missing => Ok(()),
         }
-        Ok(made)
     }
 
     /// Adds the numbers of columns of the present frame, or behind it, from one up to another.
@@ -325,9 +326,15 @@ impl Numbers {
         for (coefficient, rest) in members(&letters.bounds, bounds) {
             let end = floor(self.left(letters, rest)?, *coefficient)?;
             if *coefficient > 0 {
-                high = Some(high.map_or(end, |other: i128| other.min(end)));
+                high = Some(match high {
+                    Some(other) => end.min(other),
+                    None => end,
+                });
             } else {
-                low = Some(low.map_or(end, |other: i128| other.max(end)));
+                low = Some(match low {
+                    Some(other) => end.max(other),
+                    None => end,
+                });
             }
         }
         Some((low, high))

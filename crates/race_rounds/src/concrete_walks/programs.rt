@@ -36,9 +36,11 @@ impl Program {
     /// Adds its edges and letters, and how many columns frames have.
     fn fill(&mut self, alloc: Global, icfg: &Icfg) -> Result<(), AllocError> {
         for &proc in icfg.place_procs() {
-            let frame = icfg.frames().get(proc as usize);
-            self.widths
-                .push(frame.map_or(0, |frame| frame.columns.len()))?;
+            let width = match icfg.frames().get(proc as usize) {
+                Some(frame) => frame.columns.len(),
+                None => 0,
+            };
+            self.widths.push(width)?;
         }
         self.edges.add_all(alloc, icfg.nwa())?;
         self.letters.add_all(alloc, icfg)

@@ -32,9 +32,10 @@ impl Walker {
     pub fn new(alloc: Global, icfg: &Icfg, worker: u64) -> Result<Walker, AllocError>
         ensures { IfOk result (λ w. w.found ≡ false) }
     {
+        let choices = Choices::new(alloc, icfg, worker)?;
         Ok(Walker {
             program: Program::new(alloc, icfg)?,
-            choices: Choices::new(alloc, icfg, worker)?,
+            choices,
             walk: Walk::new(alloc),
             lengths: Lengths::new(),
             found: false,

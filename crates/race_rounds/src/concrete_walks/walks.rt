@@ -106,19 +106,29 @@ impl Walk {
         choices: &mut Choices,
     ) -> Result<(), AllocError> {
         let mut passed = Passed::new(alloc);
+        self.pass(program, choices, &mut passed)
+    }
+
+    /// The same with a walk of which nothing is noted yet.
+    fn pass(
+        &mut self,
+        program: &Program,
+        choices: &mut Choices,
+        passed: &mut Passed,
+    ) -> Result<(), AllocError> {
         let (count, mut tries) = (self.count, 0);
         self.begin(program, choices)?;
-        let made = self.numbers.made_at_start(alloc, &program.letters)?;
-        passed.add(self.situation(program), made)?;
+        self.numbers
+            .add_made_at_start(&program.letters, &mut passed.made)?;
+        passed.add(self.situation(program))?;
         for _ in 0..count {
             let Some(edge) = self.next(program, choices, &mut tries)? else {
                 break;
             };
-            let made = self
-                .numbers
-                .made_by(alloc, &program.letters, edge.letter.id)?;
+            self.numbers
+                .add_made_by(&program.letters, edge.letter.id, &mut passed.made)?;
             self.follow(edge)?;
-            passed.add(self.situation(program), made)?;
+            passed.add(self.situation(program))?;
         }
         self.made.clear();
         self.count = passed.straighten(self.letters.as_mut_slice(), &mut self.made)?;
@@ -218,16 +228,27 @@ impl Walk {
         ensures { IfOk result (λ o. IfSome o (Accepts nwa.now)) }
     {
         let letters = self.letters.get(..self.count).unwrap_or(&[]);
-        match word(Vec::from_slice(alloc, letters)?) {
-            Some(word) => {
-                if accepts(alloc, nwa, &word)? {
-                    Ok(Some(word))
-                } else {
-                    Ok(None)
-                }
+        if_accepted(alloc, nwa, word(Vec::from_slice(alloc, letters)?))
+    }
+}
+
+/// The word, where the automaton accepts it.
+pub(crate) fn if_accepted(
+    alloc: Global,
+    nwa: &Nwa,
+    word: Option<Word>,
+) -> Result<Option<Word>, AllocError>
+    ensures { IfOk result (λ o. IfSome o (Accepts nwa.now)) }
+{
+    match word {
+        Some(word) => {
+            if accepts(alloc, nwa, &word)? {
+                Ok(Some(word))
+            } else {
+                Ok(None)
             }
-            None => Ok(None),
         }
+        None => Ok(None),
     }
 }
 
