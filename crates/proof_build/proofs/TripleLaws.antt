@@ -314,3 +314,23 @@ needed_once needed seen shown h = record {
   once = subst (λ (l : List Listed). AreDistinct l) (sym h.are) h.once;
   within = λ t m. h.within t.listed (subst (λ (l : List Listed). Member l t.listed) h.are (member_map (λ (x : PlainShown). x.listed) shown t m));
 }
+
+-- ---- a triple of which a predicate has no number
+
+pub none_inside : (preds : List Scoped) (t : Triple) (from to : Scoped) (l : ℕ) (n : Listed) → t ≡ triples.Inside from l to →
+    ((q r : ℕ) → IsNumberOf preds from q → IsNumberOf preds to r → ⊥) → IsListedAs preds t n → ⊥
+none_inside preds t from to l n e f h = at n (subst (λ (x : Triple). IsListedAs preds x n) e h)
+  where
+    at : (m : Listed) → IsListedAs preds (triples.Inside from l to) m → ⊥
+    at (Inside q k r) g = f q r g.0 g.2
+    at (Call q k r) g = g
+    at (Back q p k r) g = g
+
+pub none_call : (preds : List Scoped) (t : Triple) (from to : Scoped) (l : ℕ) (n : Listed) → t ≡ triples.Call from l to →
+    ((q r : ℕ) → IsNumberOf preds from q → IsNumberOf preds to r → ⊥) → IsListedAs preds t n → ⊥
+none_call preds t from to l n e f h = at n (subst (λ (x : Triple). IsListedAs preds x n) e h)
+  where
+    at : (m : Listed) → IsListedAs preds (triples.Call from l to) m → ⊥
+    at (Inside q k r) g = g
+    at (Call q k r) g = f q r g.0 g.2
+    at (Back q p k r) g = g

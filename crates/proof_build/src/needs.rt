@@ -1,6 +1,6 @@
 //! The triples that the steps of an unwinding need: for each predicate of the end of a step one.
 
-ghost use Rattle.std.specs.Prelude.{◌≡◌, ℕ, ◌↔◌, IsTrue, IfOk, OnOk, MatchOption};
+ghost use Rattle.std.specs.Prelude.{◌≡◌, ℕ, ◌↔◌, IsTrue, IfOk, OnOk, MatchOption, if◌then◌else◌};
 ghost use Rattle.nwa_base.specs.Members.{Member};
 ghost use Rattle.proof_build.specs.ProofUnwind.Unwindings.{node_at};
 ghost use Rattle.proof_build.specs.ProofUnwind.Spots.{nodes_of};
@@ -22,30 +22,26 @@ fn preds_at(nodes: &[Spot], number: u32) -> &[u32]
     }
 }
 
-/// True, or the first of the predicates before an inside letter, from which an edge leads to the target.
-fn inside_source(union: &Nwa, before: &[u32], letter: Letter, target: u32) -> Option<u32>
-    ensures { MatchOption result (Leads union.now.insides before.now letter target → ⊥) (λ q. Member union.now.insides (q, letter, target) × IsAmong before.now q) }
+/// Whether an edge by the letter leads from the source to the target: a call edge, or an inside edge.
+fn leads(union: &Nwa, is_call: bool, source: u32, letter: Letter, target: u32) -> bool
+    ensures { IsTrue result ↔ Member (if is_call then union.now.calls else union.now.insides) (source, letter, target) }
 {
-    if union.has_inside(0, letter, target) {
-        return Some(0);
+    if is_call {
+        union.has_call(source, letter, target)
+    } else {
+        union.has_inside(source, letter, target)
     }
-    for &source in before {
-        if union.has_inside(source, letter, target) {
-            return Some(source);
-        }
-    }
-    None
 }
 
-/// True, or the first of the predicates before a call letter, from which an edge leads to the target.
-fn call_source(union: &Nwa, before: &[u32], letter: Letter, target: u32) -> Option<u32>
-    ensures { MatchOption result (Leads union.now.calls before.now letter target → ⊥) (λ q. Member union.now.calls (q, letter, target) × IsAmong before.now q) }
+/// True, or the first of the predicates before the letter, from which an edge leads to the target.
+fn source(union: &Nwa, is_call: bool, before: &[u32], letter: Letter, target: u32) -> Option<u32>
+    ensures { MatchOption result (Leads (if is_call then union.now.calls else union.now.insides) before.now letter target → ⊥) (λ q. Member (if is_call then union.now.calls else union.now.insides) (q, letter, target) × IsAmong before.now q) }
 {
-    if union.has_call(0, letter, target) {
+    if leads(union, is_call, 0, letter, target) {
         return Some(0);
     }
     for &source in before {
-        if union.has_call(source, letter, target) {
+        if leads(union, is_call, source, letter, target) {
             return Some(source);
         }
     }
@@ -88,45 +84,32 @@ fn back_sources(
     None
 }
 
-/// Notes what the predicates after an inside letter need.
-fn note_inside(
-    noted: &mut Noted,
-    union: &Nwa,
-    before: &[u32],
-    letter: Letter,
-    after: &[u32],
-) -> Result<(), AllocError>
-    ensures { OnOk result (NotesAll union.now.insides inside_numbers before.now letter after.now noted.old noted.new) }
+/// The numbers of a triple of a call letter, or of an inside letter.
+fn listed_by(is_call: bool, source: u32, letter: Letter, target: u32) -> Listed
+    ensures { result ≡ (if is_call then call_numbers else inside_numbers) source letter.id target }
 {
-    for &target in after {
-        if let Some(source) = inside_source(union, before, letter, target) {
-            noted.insert(Listed::Inside {
-                from: source as usize,
-                letter: letter.id,
-                to: target as usize,
-            })?;
-        }
+    let (from, letter, to) = (source as usize, letter.id, target as usize);
+    if is_call {
+        Listed::Call { from, letter, to }
+    } else {
+        Listed::Inside { from, letter, to }
     }
-    Ok(())
 }
 
-/// Notes what the predicates after a call letter need.
-fn note_call(
+/// Notes what the predicates after a call letter or an inside letter need.
+fn note_after(
     noted: &mut Noted,
     union: &Nwa,
+    is_call: bool,
     before: &[u32],
     letter: Letter,
     after: &[u32],
 ) -> Result<(), AllocError>
-    ensures { OnOk result (NotesAll union.now.calls call_numbers before.now letter after.now noted.old noted.new) }
+    ensures { OnOk result (NotesAll (if is_call then union.now.calls else union.now.insides) (if is_call then call_numbers else inside_numbers) before.now letter after.now noted.old noted.new) }
 {
     for &target in after {
-        if let Some(source) = call_source(union, before, letter, target) {
-            noted.insert(Listed::Call {
-                from: source as usize,
-                letter: letter.id,
-                to: target as usize,
-            })?;
+        if let Some(source) = source(union, is_call, before, letter, target) {
+            noted.insert(listed_by(is_call, source, letter, target))?;
         }
     }
     Ok(())
@@ -156,36 +139,20 @@ fn note_back(
     Ok(())
 }
 
-/// Notes what steps by inside letters need.
-fn note_insides(
+/// Notes what steps by call letters or by inside letters need.
+fn note_steps(
     noted: &mut Noted,
     union: &Nwa,
+    is_call: bool,
     nodes: &[Spot],
     steps: &[(u32, Letter, u32)],
 ) -> Result<(), AllocError>
-    ensures { OnOk result (NotesSteps union.now.insides inside_numbers (nodes_of nodes.now) steps.now noted.old noted.new) }
+    ensures { OnOk result (NotesSteps (if is_call then union.now.calls else union.now.insides) (if is_call then call_numbers else inside_numbers) (nodes_of nodes.now) steps.now noted.old noted.new) }
 {
     for &step in steps {
         let before = preds_at(nodes, step.0);
         let after = preds_at(nodes, step.2);
-        note_inside(noted, union, before, step.1, after)?;
-    }
-    Ok(())
-}
-
-/// Notes what steps by call letters need.
-fn note_calls(
-    noted: &mut Noted,
-    union: &Nwa,
-    nodes: &[Spot],
-    steps: &[(u32, Letter, u32)],
-) -> Result<(), AllocError>
-    ensures { OnOk result (NotesSteps union.now.calls call_numbers (nodes_of nodes.now) steps.now noted.old noted.new) }
-{
-    for &step in steps {
-        let before = preds_at(nodes, step.0);
-        let after = preds_at(nodes, step.2);
-        note_call(noted, union, before, step.1, after)?;
+        note_after(noted, union, is_call, before, step.1, after)?;
     }
     Ok(())
 }
@@ -213,8 +180,20 @@ pub(crate) fn needed_by(alloc: Global, union: &Nwa, unwound: &Unwound) -> Result
     ensures { IfOk result (AreNeeded union.now (nodes_of unwound.now.nodes.items) unwound.now.steps) }
 {
     let mut noted = Noted::new(alloc);
-    note_insides(&mut noted, union, &unwound.nodes, unwound.steps.insides())?;
-    note_calls(&mut noted, union, &unwound.nodes, unwound.steps.calls())?;
+    note_steps(
+        &mut noted,
+        union,
+        false,
+        &unwound.nodes,
+        unwound.steps.insides(),
+    )?;
+    note_steps(
+        &mut noted,
+        union,
+        true,
+        &unwound.nodes,
+        unwound.steps.calls(),
+    )?;
     note_backs(&mut noted, union, &unwound.nodes, unwound.steps.backs())?;
     Ok(noted)
 }

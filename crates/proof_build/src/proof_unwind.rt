@@ -14,5 +14,6 @@ mod stepping;
 mod unwinding;
 
 pub use ordering::by_place;
+pub(crate) use search::added;
 pub use spots::{Spot, spot_at};
 pub use unwinding::{Unwound, unwind};

@@ -1,8 +1,9 @@
 //! The triples of proofs, by the numbers of their predicates.
 
-ghost use Rattle.std.specs.Prelude.{[], ◌∷◌, IfOk, map};
+ghost use Rattle.std.specs.Prelude.{ℕ, [], ◌∷◌, IfOk, MatchOption, map};
 ghost use Rattle.triple_rows.specs.declared.triples.Triple.TheVariants as triples;
 ghost use Rattle.proof_names.specs.ProofSpell.Drafts.{plain};
+ghost use Rattle.proof_build.specs.Numbering.{IsNumberOf};
 ghost use Rattle.proof_build.specs.Ties.Listing.{AreItsNumbers, IsFirst, AreNumbersOf, AreNeededOnce, Shows, AreTriplesOf};
 
 use crate::noted::Noted;
@@ -13,42 +14,46 @@ use proof_names::proof_spell::Shown;
 use std::alloc::{AllocError, Global};
 use triple_rows::{Proof, Scoped, Triple};
 
-/// The numbers of an inside triple, if its predicates have numbers.
-fn listed_inside(
+/// The numbers of two predicates, if both have numbers.
+fn both(
     preds: &Predicates,
-    from: &Scoped,
-    letter: u32,
-    to: &Scoped,
-) -> Result<Option<Listed>, AllocError>
-    ensures { IfOk result (AreItsNumbers preds.now (triples.Inside from.now letter to.now)) }
+    first: &Scoped,
+    second: &Scoped,
+) -> Result<Option<(usize, usize)>, AllocError>
+    ensures { IfOk result (λ o. MatchOption o ((q r : ℕ) → IsNumberOf preds.now first.now q → IsNumberOf preds.now second.now r → ⊥) (λ n. IsNumberOf preds.now first.now n.0 × IsNumberOf preds.now second.now n.1)) }
 {
-    let (Some(from), Some(to)) = (number_of(preds, from)?, number_of(preds, to)?) else {
+    let (Some(first), Some(second)) = (number_of(preds, first)?, number_of(preds, second)?) else {
         return Ok(None);
     };
-    Ok(Some(Listed::Inside {
-        from: from as usize,
-        letter,
-        to: to as usize,
-    }))
+    Ok(Some((first as usize, second as usize)))
 }
 
-/// The numbers of a call triple, if its predicates have numbers.
-fn listed_call(
-    preds: &Predicates,
-    from: &Scoped,
-    letter: u32,
-    to: &Scoped,
-) -> Result<Option<Listed>, AllocError>
-    ensures { IfOk result (AreItsNumbers preds.now (triples.Call from.now letter to.now)) }
+/// The numbers of a triple, if its predicates have numbers.
+fn listed(preds: &Predicates, triple: &Triple) -> Result<Option<Listed>, AllocError>
+    ensures { IfOk result (AreItsNumbers preds.now triple.now) }
 {
-    let (Some(from), Some(to)) = (number_of(preds, from)?, number_of(preds, to)?) else {
-        return Ok(None);
-    };
-    Ok(Some(Listed::Call {
-        from: from as usize,
-        letter,
-        to: to as usize,
-    }))
+    match triple {
+        Triple::Inside { from, letter, to } => {
+            let Some((from, to)) = both(preds, from, to)? else {
+                return Ok(None);
+            };
+            let letter = *letter;
+            Ok(Some(Listed::Inside { from, letter, to }))
+        }
+        Triple::Call { from, letter, to } => {
+            let Some((from, to)) = both(preds, from, to)? else {
+                return Ok(None);
+            };
+            let letter = *letter;
+            Ok(Some(Listed::Call { from, letter, to }))
+        }
+        Triple::Back {
+            exit,
+            before,
+            letter,
+            to,
+        } => listed_back(preds, exit, before, *letter, to),
+    }
 }
 
 /// The numbers of a return triple, if its predicates have numbers.
@@ -61,34 +66,18 @@ fn listed_back(
 ) -> Result<Option<Listed>, AllocError>
     ensures { IfOk result (AreItsNumbers preds.now (triples.Back exit.now before.now letter to.now)) }
 {
-    let (Some(exit), Some(before)) = (number_of(preds, exit)?, number_of(preds, before)?) else {
+    let Some((exit, before)) = both(preds, exit, before)? else {
         return Ok(None);
     };
     let Some(to) = number_of(preds, to)? else {
         return Ok(None);
     };
     Ok(Some(Listed::Back {
-        exit: exit as usize,
-        before: before as usize,
+        exit,
+        before,
         letter,
         to: to as usize,
     }))
-}
-
-/// The numbers of a triple, if its predicates have numbers.
-fn listed(preds: &Predicates, triple: &Triple) -> Result<Option<Listed>, AllocError>
-    ensures { IfOk result (AreItsNumbers preds.now triple.now) }
-{
-    match triple {
-        Triple::Inside { from, letter, to } => listed_inside(preds, from, *letter, to),
-        Triple::Call { from, letter, to } => listed_call(preds, from, *letter, to),
-        Triple::Back {
-            exit,
-            before,
-            letter,
-            to,
-        } => listed_back(preds, exit, before, *letter, to),
-    }
 }
 
 /// Whether the numbers are needed and were not seen; they are seen from now on.

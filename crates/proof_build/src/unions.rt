@@ -1,28 +1,16 @@
 //! The automaton over the numbers of predicates.
 
-ghost use Rattle.std.specs.Prelude.{◌≡◌, ◌≢◌, ℕ, ◌+◌, ◌<◌, ◌++◌, Ok, Err, Some, [], IfOk, OnOk, length, map};
+ghost use Rattle.std.specs.Prelude.{◌≡◌, ℕ, ◌+◌, ◌<◌, ◌++◌, Some, [], IfOk, OnOk, length, map};
 ghost use Rattle.std.specs.List.{AllByRecursion, filter_map};
 ghost use Rattle.nwa_base.specs.declared.letters.Kind.TheVariants.{Inside, Call, Back};
 ghost use Rattle.proof_build.specs.Numbering.{number_at};
 ghost use Rattle.proof_build.specs.Ties.Unions.{numbered, numbered_back, with_edges, IsUnionOf};
 
 use crate::numbers::{at, numbers_of};
+use crate::proof_unwind::added;
 use itp_automaton::{Certified, Predicates};
-use nwa_base::{Letter, Nwa, NwaFault, empty};
+use nwa_base::{Letter, Nwa, empty};
 use std::alloc::{AllocError, Global};
-
-/// What an automaton answers where its states are there and each letter has its kind.
-fn added<T: Drop>(answer: Result<T, NwaFault>) -> Result<T, AllocError>
-    requires state { answer ≢ Err NwaFault.BadState }
-    requires letter { answer ≢ Err NwaFault.BadLetter }
-    ensures { IfOk result (λ value. answer ≡ Ok value) }
-{
-    match answer {
-        Ok(value) => Ok(value),
-        Err(NwaFault::Memory) => Err(AllocError),
-        Err(NwaFault::BadState | NwaFault::BadLetter) => unreachable!(),
-    }
-}
 
 /// The edge between the numbers of its states, if they have numbers.
 fn by_number(numbers: &[Option<u32>], edge: (u32, Letter, u32)) -> Option<(u32, Letter, u32)>

@@ -17,7 +17,7 @@ use Rattle.nwa_base.proofs.MemberLemmas.{member_split, member_front, member_rest
 use Rattle.proof_names.specs.Outlines.{OutlineNode}
 use Rattle.proof_names.specs.ProofSpell.Drafts.{AscendFrom}
 use Rattle.proof_check.specs.Steps.{IsOf}
-use Rattle.proof_build.specs.ProofUnwind.Exploring.{InsideFollows, CallFollows, BackFollows, AreFollowing, IsChosen}
+use Rattle.proof_build.specs.ProofUnwind.Exploring.{BackFollows, AreFollowing, IsChosen}
 
 both_hold : (a b : Bool) → (a && b) ≡ true → (a ≡ true) × (b ≡ true)
 both_hold a b h = (and_left a b h, and_right a b h)
@@ -84,23 +84,15 @@ of_source x preds q e (inr m) = inr (subst (λ (l : List ℕ). Member l q) e m)
 chosen_follow : (Follows : ℕ → Type 0) (numbers preds : List ℕ) → ((r : ℕ) → Member numbers r → Follows r) → ((r : ℕ) → Follows r → Member numbers r) → IsChosen numbers preds → AreFollowing Follows preds
 chosen_follow Follows numbers preds f g c = record { ascend = c.ascend; sound = λ r m. f r (c.sound r m); complete = λ r m. c.complete r (g r m) }
 
-pub inside_chosen : {V E : Type 0} (items : V → List ℕ) (b : Automaton) (a : Letter) (preds sources targets : List ℕ) (r : Result V E) → sources ≡ 0 ∷ preds →
-    targets ≡ flat_map (λ q. ends q a b.insides) sources → IfOk r (λ v. IsChosen targets (items v)) → IfOk r (λ v. (x : OutlineNode) → x.preds ≡ preds → AreFollowing (InsideFollows b a x) (items v))
-inside_chosen items b a preds sources targets (Err e) s t c = c
-inside_chosen items b a preds sources targets (Ok v) s t c = λ x e. chosen_follow (InsideFollows b a x) targets (items v)
-    (λ r m. let k = from_flat (λ q. ends q a b.insides) sources r (subst (λ (l : List ℕ). Member l r) t m) in
-    (k.0, end_there k.0 r a b.insides k.2, source_of x preds k.0 e (subst (λ (l : List ℕ). Member l k.0) s k.1)))
-    (λ r f. subst (λ (l : List ℕ). Member l r) (sym t) (to_flat (λ q. ends q a b.insides) sources f.0 r (subst (λ (l : List ℕ). Member l f.0) (sym s) (of_source x preds f.0 e f.2))
-    (there_end f.0 r a b.insides f.1))) c
-
-pub call_chosen : {V E : Type 0} (items : V → List ℕ) (b : Automaton) (a : Letter) (preds sources targets : List ℕ) (r : Result V E) → sources ≡ 0 ∷ preds →
-    targets ≡ flat_map (λ q. ends q a b.calls) sources → IfOk r (λ v. IsChosen targets (items v)) → IfOk r (λ v. (x : OutlineNode) → x.preds ≡ preds → AreFollowing (CallFollows b a x) (items v))
-call_chosen items b a preds sources targets (Err e) s t c = c
-call_chosen items b a preds sources targets (Ok v) s t c = λ x e. chosen_follow (CallFollows b a x) targets (items v)
-    (λ r m. let k = from_flat (λ q. ends q a b.calls) sources r (subst (λ (l : List ℕ). Member l r) t m) in
-    (k.0, end_there k.0 r a b.calls k.2, source_of x preds k.0 e (subst (λ (l : List ℕ). Member l k.0) s k.1)))
-    (λ r f. subst (λ (l : List ℕ). Member l r) (sym t) (to_flat (λ q. ends q a b.calls) sources f.0 r (subst (λ (l : List ℕ). Member l f.0) (sym s) (of_source x preds f.0 e f.2))
-    (there_end f.0 r a b.calls f.1))) c
+pub edge_chosen : {V E : Type 0} (items : V → List ℕ) (edges : List (ℕ × Letter × ℕ)) (a : Letter) (preds sources targets : List ℕ) (r : Result V E) → sources ≡ 0 ∷ preds →
+    targets ≡ flat_map (λ q. ends q a edges) sources → IfOk r (λ v. IsChosen targets (items v)) →
+    IfOk r (λ v. (x : OutlineNode) → x.preds ≡ preds → AreFollowing (λ t. (q : ℕ) × Member edges (q, a, t) × IsOf q x) (items v))
+edge_chosen items edges a preds sources targets (Err e) s t c = c
+edge_chosen items edges a preds sources targets (Ok v) s t c = λ x e. chosen_follow (λ t. (q : ℕ) × Member edges (q, a, t) × IsOf q x) targets (items v)
+    (λ r m. let k = from_flat (λ q. ends q a edges) sources r (subst (λ (l : List ℕ). Member l r) t m) in
+    (k.0, end_there k.0 r a edges k.2, source_of x preds k.0 e (subst (λ (l : List ℕ). Member l k.0) s k.1)))
+    (λ r f. subst (λ (l : List ℕ). Member l r) (sym t) (to_flat (λ q. ends q a edges) sources f.0 r (subst (λ (l : List ℕ). Member l f.0) (sym s) (of_source x preds f.0 e f.2))
+    (there_end f.0 r a edges f.1))) c
 
 pub back_chosen : {V E : Type 0} (items : V → List ℕ) (b : Automaton) (a : Letter) (exit before exits callers targets : List ℕ) (r : Result V E) → exits ≡ 0 ∷ exit → callers ≡ 0 ∷ before →
     targets ≡ flat_map (λ q. flat_map (λ p. back_ends q p a b.backs) callers) exits → IfOk r (λ v. IsChosen targets (items v)) →

@@ -57,11 +57,11 @@ pub(crate) fn pred_line(alloc: Global, given: &PredLine) -> Result<PredLine, All
     Ok(PredLine { proc, nodes })
 }
 
-/// An equal row and multiplier.
-fn part(given: &(Numeral, Numeral)) -> Result<(Numeral, Numeral), AllocError> {
-    let row = numeral(&given.0)?;
-    let multiplier = numeral(&given.1)?;
-    Ok((row, multiplier))
+/// Two equal numerals.
+fn two(first: &Numeral, second: &Numeral) -> Result<(Numeral, Numeral), AllocError> {
+    let first = numeral(first)?;
+    let second = numeral(second)?;
+    Ok((first, second))
 }
 
 fn parts(
@@ -70,22 +70,19 @@ fn parts(
 ) -> Result<Vec<(Numeral, Numeral)>, AllocError> {
     let mut copied = Vec::with_capacity(alloc, given.len())?;
     for pair in given {
-        copied.push(part(pair)?)?;
+        copied.push(two(&pair.0, &pair.1)?)?;
     }
     Ok(copied)
-}
-
-fn cut(col: &Numeral, k: &Numeral) -> Result<RNode, AllocError> {
-    let col = numeral(col)?;
-    let k = numeral(k)?;
-    Ok(RNode::Cut { col, k })
 }
 
 /// An equal node of a refutation.
 fn refutation_node(alloc: Global, given: &RNode) -> Result<RNode, AllocError> {
     match given {
         RNode::Leaf(given) => Ok(RNode::Leaf(parts(alloc, given)?)),
-        RNode::Cut { col, k } => cut(col, k),
+        RNode::Cut { col, k } => {
+            let (col, k) = two(col, k)?;
+            Ok(RNode::Cut { col, k })
+        }
         RNode::Cases(members) => Ok(RNode::Cases(*members)),
     }
 }

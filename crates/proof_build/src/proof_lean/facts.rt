@@ -36,11 +36,11 @@ impl Facts {
 
     /// Adds a predicate at a node; whether it is a new fact.
     pub(crate) fn add(&mut self, node: usize, pred: usize) -> Result<bool, AllocError> {
-        if self.has(node, pred) {
+        if pred == 0 {
             return Ok(false);
         }
-        self.marks.insert((node, pred))?;
-        Ok(true)
+        let is_new = self.marks.insert((node, pred))?;
+        Ok(is_new)
     }
 
     /// Adds all predicates of a node.

@@ -7,7 +7,7 @@ ghost use Rattle.proof_build.specs.ProofLean.Leaner.{IsNoLarger, fact_count};
 
 use crate::proof_lean::classes::classes_of;
 use crate::proof_lean::covers::{covered_moves, covers_of};
-use crate::proof_lean::drafts::{Draft, Move, draft_of};
+use crate::proof_lean::drafts::{Draft, draft_of};
 use crate::proof_lean::facts::with_facts;
 use crate::proof_lean::joining::{joined_moves, joined_nodes};
 use crate::proof_lean::needs::needed;
@@ -19,50 +19,46 @@ use proof_form::Annotation;
 use proof_names::{NameFault, Outline, outline};
 use std::alloc::{AllocError, Global};
 
-/// The draft, each node with the predicates that are needed there.
-fn with_needed(alloc: Global, draft: Draft) -> Result<Draft, AllocError> {
-    let facts = needed(alloc, &draft)?;
-    let nodes = with_facts(alloc, &draft.nodes, &facts)?;
-    let Draft { rules, moves, .. } = draft;
-    Ok(Draft {
-        rules,
-        nodes,
-        moves,
-    })
+/// Leaves each node the predicates that are needed there.
+fn keep_needed(alloc: Global, draft: &mut Draft) -> Result<(), AllocError> {
+    let facts = needed(alloc, draft)?;
+    draft.nodes = with_facts(alloc, &draft.nodes, &facts)?;
+    Ok(())
 }
 
-/// The draft with one node in place of nodes that are alike.
-fn joined(alloc: Global, draft: Draft) -> Result<Draft, AllocError> {
-    let classes = classes_of(alloc, &draft)?;
-    let nodes = joined_nodes(alloc, &draft.nodes, &classes)?;
-    let moves = joined_moves(alloc, &draft.moves, &classes)?;
-    let Draft { rules, .. } = draft;
-    Ok(Draft {
-        rules,
-        nodes,
-        moves,
-    })
+/// Puts the first of the nodes with one number in place of all of them, and the nodes in the order of the numbers.
+fn renumber(alloc: Global, draft: &mut Draft, numbers: &[usize]) -> Result<(), AllocError> {
+    draft.nodes = joined_nodes(alloc, &draft.nodes, numbers)?;
+    draft.moves = joined_moves(alloc, &draft.moves, numbers)?;
+    Ok(())
 }
 
-/// The draft without the nodes in whose place others stand, and without those that were reached from these alone.
-fn covered(alloc: Global, draft: Draft) -> Result<Draft, AllocError> {
+/// Puts one node in place of nodes that are alike.
+fn join(alloc: Global, draft: &mut Draft) -> Result<(), AllocError> {
+    let classes = classes_of(alloc, draft)?;
+    renumber(alloc, draft, &classes)
+}
+
+/// Takes away the moves of nodes in whose place others stand.
+fn cover(alloc: Global, draft: &mut Draft) -> Result<(), AllocError> {
     let covers = covers_of(alloc, &draft.nodes)?;
-    let moves = covered_moves(alloc, &draft.moves, &covers)?;
-    reached(alloc, draft, &moves)
+    draft.moves = covered_moves(alloc, &draft.moves, &covers)?;
+    Ok(())
 }
 
-/// The draft with these moves, and with the nodes that they reach.
-fn reached(alloc: Global, draft: Draft, moves: &[Move]) -> Result<Draft, AllocError> {
-    let ranks = ranks_of(alloc, draft.nodes.len(), moves)?;
-    let kept = moves_within(alloc, moves, &ranks)?;
-    let nodes = joined_nodes(alloc, &draft.nodes, &ranks)?;
-    let moves = joined_moves(alloc, &kept, &ranks)?;
-    let Draft { rules, .. } = draft;
-    Ok(Draft {
-        rules,
-        nodes,
-        moves,
-    })
+/// Takes away the nodes that no moves reach.
+fn keep_reached(alloc: Global, draft: &mut Draft) -> Result<(), AllocError> {
+    let ranks = ranks_of(alloc, draft.nodes.len(), &draft.moves)?;
+    draft.moves = moves_within(alloc, &draft.moves, &ranks)?;
+    renumber(alloc, draft, &ranks)
+}
+
+/// Takes away what the proof does not need.
+fn lessen(alloc: Global, draft: &mut Draft) -> Result<(), AllocError> {
+    keep_needed(alloc, draft)?;
+    join(alloc, draft)?;
+    cover(alloc, draft)?;
+    keep_reached(alloc, draft)
 }
 
 /// What is left of an annotation that names this.
@@ -71,10 +67,8 @@ fn lessened(
     given: &Annotation,
     outline: Outline,
 ) -> Result<Option<Annotation>, AllocError> {
-    let draft = draft_of(alloc, outline)?;
-    let draft = with_needed(alloc, draft)?;
-    let draft = joined(alloc, draft)?;
-    let draft = covered(alloc, draft)?;
+    let mut draft = draft_of(alloc, outline)?;
+    lessen(alloc, &mut draft)?;
     spelled(alloc, given, &draft)
 }
 
@@ -124,28 +118,36 @@ fn is_no_larger(other: &Annotation, annotation: &Annotation) -> bool
         && has_no_more_facts(other, annotation)
 }
 
-/// Of two annotations the first, if it proves the graph and is no larger, and else the second.
-fn judged(
+/// Whether an annotation proves the graph and is no larger than another.
+fn is_better(
     alloc: Global,
     icfg: &Icfg,
-    proposal: Annotation,
-    given: Annotation,
-) -> Result<Annotation, AllocError>
-    requires { Proves icfg.now given }
-    ensures proves { IfOk result (Proves icfg.now) }
-    ensures lines { IfOk result (λ a. IsTrue (is_annotation a)) }
-    ensures no_larger { IfOk result (IsNoLarger given) }
+    given: &Annotation,
+    proposal: &Annotation,
+) -> Result<bool, AllocError>
+    ensures { IfOk result (λ better. IsTrue better → Proves icfg.now proposal.now × IsNoLarger given.now proposal.now) }
 {
-    let _lines = given.preds();
-    let _proposed = proposal.preds();
-    if !is_no_larger(&given, &proposal) {
-        return Ok(given);
+    if !is_no_larger(given, proposal) {
+        return Ok(false);
     }
-    match check(alloc, icfg, &proposal) {
-        Ok(()) => Ok(proposal),
-        Err(Reject::At { .. }) => Ok(given),
+    match check(alloc, icfg, proposal) {
+        Ok(()) => Ok(true),
+        Err(Reject::At { .. }) => Ok(false),
         Err(Reject::Memory) => Err(AllocError),
     }
+}
+
+/// A lean annotation that proves the graph and is no larger than the given one, if what is left of that is one.
+fn leaner(alloc: Global, icfg: &Icfg, given: &Annotation) -> Result<Option<Annotation>, AllocError>
+    ensures { IfOk result (λ o. IfSome o (λ a. Proves icfg.now a × IsNoLarger given.now a)) }
+{
+    let Some(proposal) = proposed(alloc, icfg, given)? else {
+        return Ok(None);
+    };
+    if !is_better(alloc, icfg, given, &proposal)? {
+        return Ok(None);
+    }
+    Ok(Some(proposal))
 }
 
 /// The annotation with what its proof needs and nothing else: each node has the predicates on which false rests where it holds, nodes that are alike
@@ -158,8 +160,11 @@ pub fn lean(alloc: Global, icfg: &Icfg, given: Annotation) -> Result<Annotation,
     ensures no_larger { IfOk result (IsNoLarger given) }
 {
     let _lines = given.preds();
-    match proposed(alloc, icfg, &given)? {
-        Some(proposal) => judged(alloc, icfg, proposal, given),
+    match leaner(alloc, icfg, &given)? {
+        Some(proposal) => {
+            let _proposed = proposal.preds();
+            Ok(proposal)
+        }
         None => Ok(given),
     }
 }

@@ -16,8 +16,7 @@ struct Reach {
 impl Reach {
     /// The node is reached.
     fn see(&mut self, node: usize) -> Result<(), AllocError> {
-        if !self.seen.contains(&node) {
-            self.seen.insert(node)?;
+        if self.seen.insert(node)? {
             self.open.push(node)?;
         }
         Ok(())

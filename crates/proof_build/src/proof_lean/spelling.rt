@@ -168,6 +168,31 @@ fn step_lines(alloc: Global, moves: &[Move]) -> Result<Vec<StepLine>, AllocError
     Ok(lines)
 }
 
+/// The lines of an annotation.
+#[derive(Drop)]
+struct Lines {
+    preds: Vec<PredLine>,
+    triples: Vec<TripleLine>,
+    nodes: Vec<NodeLine>,
+    steps: Vec<StepLine>,
+}
+
+/// The lines of the nodes and moves, with the given triples that are used, and the given predicates in the order.
+fn fill(
+    alloc: Global,
+    lines: &mut Lines,
+    given: &Annotation,
+    draft: &Draft,
+    used: &HashSet<usize>,
+    order: &IndexSet<usize>,
+) -> Result<(), AllocError> {
+    lines.preds = pred_lines(alloc, order, given.preds())?;
+    lines.triples = triple_lines(alloc, order, used, &draft.rules, given.triples())?;
+    lines.nodes = node_lines(alloc, order, &draft.nodes)?;
+    lines.steps = step_lines(alloc, &draft.moves)?;
+    Ok(())
+}
+
 /// The annotation of the nodes and moves, with the given triples that are used, and the given predicates in the order.
 fn in_order(
     alloc: Global,
@@ -176,10 +201,19 @@ fn in_order(
     used: &HashSet<usize>,
     order: &IndexSet<usize>,
 ) -> Result<Option<Annotation>, AllocError> {
-    let preds = pred_lines(alloc, order, given.preds())?;
-    let triples = triple_lines(alloc, order, used, &draft.rules, given.triples())?;
-    let nodes = node_lines(alloc, order, &draft.nodes)?;
-    let steps = step_lines(alloc, &draft.moves)?;
+    let mut lines = Lines {
+        preds: Vec::new(alloc),
+        triples: Vec::new(alloc),
+        nodes: Vec::new(alloc),
+        steps: Vec::new(alloc),
+    };
+    fill(alloc, &mut lines, given, draft, used, order)?;
+    let Lines {
+        preds,
+        triples,
+        nodes,
+        steps,
+    } = lines;
     annotation(preds, triples, nodes, steps)
 }
 

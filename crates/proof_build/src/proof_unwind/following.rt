@@ -1,12 +1,13 @@
 //! The predicates that follow over a letter.
 
-ghost use Rattle.std.specs.Prelude.{◌≡◌, [], ◌∷◌, IfOk};
+ghost use Rattle.std.specs.Prelude.{◌≡◌, ℕ, [], ◌∷◌, IfOk, if◌then◌else◌};
 ghost use Rattle.std.specs.List.{flat_map};
-ghost use Rattle.nwa_base.specs.Members.{SameMembers};
+ghost use Rattle.nwa_base.specs.Members.{Member, SameMembers};
 ghost use Rattle.nwa_base.specs.Edges.{ends, back_ends};
 ghost use Rattle.proof_names.specs.Outlines.{OutlineNode};
 ghost use Rattle.proof_names.specs.ProofSpell.Drafts.{AscendFrom};
-ghost use Rattle.proof_build.specs.ProofUnwind.Exploring.{InsideFollows, CallFollows, BackFollows, AreFollowing, IsChosen};
+ghost use Rattle.proof_check.specs.Steps.{IsOf};
+ghost use Rattle.proof_build.specs.ProofUnwind.Exploring.{BackFollows, AreFollowing, IsChosen};
 
 use nwa_base::{Letter, Nwa};
 use std::alloc::{AllocError, Global};
@@ -21,34 +22,30 @@ fn sources(alloc: Global, preds: &[u32]) -> Result<Vec<u32>, AllocError>
     Ok(sources)
 }
 
-/// Where inside edges by the letter lead from the sources.
-fn inside_ends(
-    alloc: Global,
-    union: &Nwa,
-    sources: &[u32],
-    letter: Letter,
-) -> Result<Vec<u32>, AllocError>
-    ensures { IfOk result (λ v. v.items ≡ flat_map (λ q. ends q letter union.now.insides) sources.now) }
+/// Where edges by the letter lead from the source: call edges, or inside edges.
+fn ends_from(union: &Nwa, is_call: bool, source: u32, letter: Letter) -> &[u32]
+    ensures { result.now ≡ ends source letter (if is_call then union.now.calls else union.now.insides) }
 {
-    let mut targets = Vec::new(alloc);
-    for source in sources {
-        targets.extend_from_slice(union.inside_ends(*source, letter))?;
+    if is_call {
+        union.call_ends(source, letter)
+    } else {
+        union.inside_ends(source, letter)
     }
-    Ok(targets)
 }
 
-/// Where call edges by the letter lead from the sources.
-fn call_ends(
+/// Where edges by the letter lead from the sources.
+fn letter_ends(
     alloc: Global,
     union: &Nwa,
+    is_call: bool,
     sources: &[u32],
     letter: Letter,
 ) -> Result<Vec<u32>, AllocError>
-    ensures { IfOk result (λ v. v.items ≡ flat_map (λ q. ends q letter union.now.calls) sources.now) }
+    ensures { IfOk result (λ v. v.items ≡ flat_map (λ q. ends q letter (if is_call then union.now.calls else union.now.insides)) sources.now) }
 {
     let mut targets = Vec::new(alloc);
     for source in sources {
-        targets.extend_from_slice(union.call_ends(*source, letter))?;
+        targets.extend_from_slice(ends_from(union, is_call, *source, letter))?;
     }
     Ok(targets)
 }
@@ -114,31 +111,18 @@ fn chosen(alloc: Global, numbers: Vec<u32>) -> Result<Vec<u32>, AllocError>
     }
 }
 
-/// The predicates that follow over an inside letter.
-pub(crate) fn follow_inside(
+/// The predicates that follow over a call letter or an inside letter.
+pub(crate) fn follow(
     alloc: Global,
     union: &Nwa,
+    is_call: bool,
     preds: &[u32],
     letter: Letter,
 ) -> Result<Vec<u32>, AllocError>
-    ensures { IfOk result (λ v. (x : OutlineNode) → x.preds ≡ preds.now → AreFollowing (InsideFollows union.now letter x) v.items) }
+    ensures { IfOk result (λ v. (x : OutlineNode) → x.preds ≡ preds.now → AreFollowing (λ r. (q : ℕ) × Member (if is_call then union.now.calls else union.now.insides) (q, letter, r) × IsOf q x) v.items) }
 {
     let sources = sources(alloc, preds)?;
-    let targets = inside_ends(alloc, union, &sources, letter)?;
-    chosen(alloc, targets)
-}
-
-/// The predicates that follow over a call letter.
-pub(crate) fn follow_call(
-    alloc: Global,
-    union: &Nwa,
-    preds: &[u32],
-    letter: Letter,
-) -> Result<Vec<u32>, AllocError>
-    ensures { IfOk result (λ v. (x : OutlineNode) → x.preds ≡ preds.now → AreFollowing (CallFollows union.now letter x) v.items) }
-{
-    let sources = sources(alloc, preds)?;
-    let targets = call_ends(alloc, union, &sources, letter)?;
+    let targets = letter_ends(alloc, union, is_call, &sources, letter)?;
     chosen(alloc, targets)
 }
 

@@ -8,7 +8,7 @@ ghost use Rattle.proof_build.specs.ProofUnwind.Unwindings.{node_at, node_place_i
 ghost use Rattle.proof_build.specs.ProofUnwind.Exploring.{Explores, Stepped, Called, Returned};
 ghost use Rattle.proof_build.specs.ProofUnwind.Ties.Searches.{stage_of};
 
-use crate::proof_unwind::following::{follow_back, follow_call, follow_inside};
+use crate::proof_unwind::following::{follow, follow_back};
 use crate::proof_unwind::search::{Search, entry_with, weaker};
 use crate::proof_unwind::spots::Spot;
 use nwa_base::{Letter, Nwa};
@@ -33,7 +33,7 @@ pub(crate) fn inside_step(
 {
     let spot = &search.spots[from as usize];
     let entry = spot.entry;
-    let preds = follow_inside(alloc, union, &spot.preds, letter)?;
+    let preds = follow(alloc, union, false, &spot.preds, letter)?;
     let there = search.candidates.under(place, entry);
     if let Some(to) = weaker(&search.spots, there, place, entry, &preds) {
         return search.link_inside(from, letter, to);
@@ -64,7 +64,7 @@ pub(crate) fn call_step(
     ensures { OnOk result (Called graph.now union.now from letter place (stage_of search.old) (stage_of search.new)) }
 {
     let spot = &search.spots[from as usize];
-    let preds = follow_call(alloc, union, &spot.preds, letter)?;
+    let preds = follow(alloc, union, true, &spot.preds, letter)?;
     let there = search.candidates.entries(place);
     if let Some(to) = entry_with(&search.spots, there, place, &preds) {
         return search.link_call(from, letter, to);

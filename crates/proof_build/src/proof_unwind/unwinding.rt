@@ -1,8 +1,8 @@
 //! The whole search: nodes are opened in the order of their numbers, until all are.
 
-ghost use Rattle.std.specs.Prelude.{◌≡◌, [], ◌∷◌, IfOk, length};
+ghost use Rattle.std.specs.Prelude.{◌≡◌, [], ◌∷◌, IfOk, OnOk, length};
 ghost use Rattle.proof_build.specs.ProofUnwind.Unwindings.{bare};
-ghost use Rattle.proof_build.specs.ProofUnwind.Exploring.{IsOverPreds, IsExploring, AreOpened};
+ghost use Rattle.proof_build.specs.ProofUnwind.Exploring.{IsOverPreds, IsExploring, Explores, AreOpened};
 ghost use Rattle.proof_build.specs.ProofUnwind.Spots.{nodes_of};
 ghost use Rattle.proof_build.specs.ProofUnwind.Ties.Searches.{stage_of};
 
@@ -26,18 +26,37 @@ fn begin(alloc: Global) -> Result<Search, AllocError>
     ensures nodes { IfOk result (λ s. (stage_of s).nodes ≡ bare ∷ []) }
     ensures steps { IfOk result (λ s. s.steps ≡ record { states = 1; start = 0; finals = []; insides = []; calls = []; backs = [] }) }
 {
-    let steps = added(empty(alloc, 1, 0))?;
     let mut spots = Vec::new(alloc);
     spots.push(Spot {
         place: 0,
         entry: 0,
         preds: Vec::new(alloc),
     })?;
+    let steps = added(empty(alloc, 1, 0))?;
     Ok(Search {
         candidates: Candidates::new(alloc),
         spots,
         steps,
     })
+}
+
+/// Opens all nodes of a search before any step.
+fn open_all(alloc: Global, graph: &Nwa, union: &Nwa, search: &mut Search) -> Result<(), AllocError>
+    requires start { graph.now.start ≡ 0 }
+    requires over { IsOverPreds union.now }
+    requires nodes { (stage_of search.old).nodes ≡ bare ∷ [] }
+    requires steps { search.old.steps ≡ record { states = 1; start = 0; finals = []; insides = []; calls = []; backs = [] } }
+    ensures exploring { OnOk result (Explores graph.now union.now (stage_of search.new)) }
+    ensures opened { OnOk result (AreOpened graph.now (stage_of search.new).nodes search.new.steps (length (stage_of search.new).nodes)) }
+{
+    let _states = graph.states();
+    let mut exits = Exits::new(alloc);
+    let mut next = 0;
+    while next < search.steps.states() {
+        open(alloc, graph, union, &mut exits, search, next)?;
+        next += 1;
+    }
+    Ok(())
 }
 
 /// Unwinds an automaton over the predicates that are the states of another: all nodes to which its words lead, but none behind one with false.
@@ -47,14 +66,8 @@ pub fn unwind(alloc: Global, graph: &Nwa, union: &Nwa) -> Result<Unwound, AllocE
     ensures exploring { IfOk result (λ u. IsExploring graph.now union.now (nodes_of u.nodes.items) u.steps) }
     ensures opened { IfOk result (λ u. AreOpened graph.now (nodes_of u.nodes.items) u.steps (length (nodes_of u.nodes.items))) }
 {
-    let _states = graph.states();
-    let mut exits = Exits::new(alloc);
     let mut search = begin(alloc)?;
-    let mut next = 0;
-    while next < search.steps.states() {
-        open(alloc, graph, union, &mut exits, &mut search, next)?;
-        next += 1;
-    }
+    open_all(alloc, graph, union, &mut search)?;
     let Search {
         candidates: _,
         spots,

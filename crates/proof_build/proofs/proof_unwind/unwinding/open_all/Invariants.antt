@@ -1,7 +1,7 @@
 use Rattle.std.proofs.Common.{◌-◌, ◌^◌}
 use Rattle.proof_build.specs.ProofUnwind.Exploring.{Explores, AreOpened, AreExits}
 use Rattle.proof_build.specs.ProofUnwind.Ties.Searches.{stage_of, exits_of}
-use Rattle.proof_build.proofs.proof_unwind.unwinding.unwind.Given as goal
+use Rattle.proof_build.proofs.proof_unwind.unwinding.open_all.Given as goal
 
 abbrev pub invariant-loop-next : goal.invariant-loop-next
 invariant-loop-next l = record {

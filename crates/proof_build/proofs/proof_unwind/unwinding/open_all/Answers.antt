@@ -2,14 +2,14 @@ use Rattle.std.proofs.Common.{arith}
 use Rattle.proof_build.specs.ProofUnwind.Exploring.{Stage}
 use Rattle.proof_build.specs.ProofUnwind.Ties.Searches.{stage_of, exits_of}
 use Rattle.proof_build.proofs.ProofUnwind.OpenedLaws.{explored_first, opened_first, exits_first, opened_at_last}
-use Rattle.proof_build.proofs.proof_unwind.unwinding.unwind.Goals as goal
+use Rattle.proof_build.proofs.proof_unwind.unwinding.open_all.Goals as goal
 
 pub loop-next-init : goal.loop-next-init
 loop-next-init c =
-    let s : Stage = stage_of c.in_ok-search.search in
+    let s : Stage = stage_of c.args.search.now in
     record {
-      exploring = explored_first c.args.graph.now c.args.union.now s c.requires.over c.in_ok-search.ensures.nodes c.in_ok-search.ensures.steps;
-      opened = opened_first c.args.graph.now s c.in_ok-search.ensures.steps;
+      exploring = explored_first c.args.graph.now c.args.union.now s c.requires.over c.requires.nodes c.requires.steps;
+      opened = opened_first c.args.graph.now s c.requires.steps;
       exits = exits_first c.args.graph.now s.nodes (exits_of c.new-exits.result) c.new-exits.ensures;
     }
 

@@ -1,6 +1,0 @@
-use Rattle.std.proofs.Common.{ℕ, take}
-use Rattle.nwa_base.specs.Members.{Member}
-use Rattle.proof_build.proofs.needs.inside_source.Given as goal
-
-abbrev pub invariant-loop-source : goal.invariant-loop-source
-invariant-loop-source l = (q : ℕ) → Member (take l.source-index l.before) q → Member l.union.insides (q, l.letter, l.target) → ⊥

@@ -1,6 +1,0 @@
-use Rattle.std.proofs.Common.{take}
-use Rattle.proof_build.specs.Ties.Needs.{call_numbers, NotesAll}
-use Rattle.proof_build.proofs.needs.note_call.Given as goal
-
-abbrev pub invariant-loop-target : goal.invariant-loop-target
-invariant-loop-target l = NotesAll l.union.calls call_numbers l.before l.letter (take l.target-index l.after) l.initial.noted l.noted
