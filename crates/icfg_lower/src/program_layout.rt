@@ -7,5 +7,6 @@ mod layouts;
 mod marks;
 
 pub use ends::has_ended;
+pub(crate) use ends::is_label;
 pub use layouts::{Layout, lay_out};
 pub use marks::Marks;

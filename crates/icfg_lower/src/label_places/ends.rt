@@ -5,19 +5,8 @@ ghost use Rattle.std.specs.List.{list_all};
 ghost use Rattle.typed_tree.specs.TypedView as view;
 ghost use Rattle.boogie_run.specs.BoogiePoints.Stacks.{is_label};
 
+use crate::program_layout::is_label;
 use typed_tree::TStmt;
-
-fn is_label(statement: &TStmt) -> bool
-    ensures { result ≡ is_label (view.statement statement.now) }
-{
-    match statement {
-        TStmt::Label(_) => true,
-        TStmt::Assert(_, _) | TStmt::Assume(_, _) | TStmt::Havoc(_, _) => false,
-        TStmt::Assign(_, _, _) | TStmt::Call(_, _, _, _) | TStmt::If(_, _, _, _) => false,
-        TStmt::While(_, _, _, _) | TStmt::Break(_, _) | TStmt::Goto(_, _) | TStmt::Return(_) =>
-            false,
-    }
-}
 
 /// How many statements of a block stand before the labels at its end.
 pub fn before_last_labels(block: &[TStmt]) -> usize

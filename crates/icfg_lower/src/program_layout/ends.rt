@@ -1,4 +1,4 @@
-//! Whether a block has ended.
+//! Labels, and whether only they are left of a block.
 
 ghost use Rattle.std.specs.Prelude.{◌≡◌, map};
 ghost use Rattle.std.specs.List.{list_all};
@@ -7,7 +7,8 @@ ghost use Rattle.boogie_run.specs.BoogiePoints.Stacks.{is_label};
 
 use typed_tree::TStmt;
 
-fn is_label(statement: &TStmt) -> bool
+/// Whether a statement is a label.
+pub(crate) fn is_label(statement: &TStmt) -> bool
     ensures { result ≡ is_label (view.statement statement.now) }
 {
     match statement {
