@@ -1,6 +1,6 @@
 //! The graph of what has been lowered.
 
-ghost use Rattle.std.specs.Prelude.{◌≡◌, ◌≢◌, ◌+◌, ◌<◌, ◌++◌, Ok, Err, map, length, replicate, IsErr, IfOk, OnOk};
+ghost use Rattle.std.specs.Prelude.{◌≡◌, ◌≢◌, ◌+◌, ◌<◌, ◌++◌, [], Ok, Err, map, length, replicate, IsErr, IfOk, OnOk};
 ghost use Rattle.std.specs.List.{AllByRecursion};
 ghost use Rattle.std.specs.Option.{option_map};
 ghost use Rattle.typed_tree.specs.TypedView as view;
@@ -18,6 +18,7 @@ ghost use Rattle.icfg_lower.specs.Ties.Owners.{owners_from, site_owners_from};
 ghost use Rattle.icfg_lower.specs.Ties.Built.{plain_lettered};
 
 use crate::program_layout::{Layout, Marks};
+use boogie_run::boogie_points::procedure_at;
 use boogie_tree::Text;
 use letter_acts::letter_table::Lettered;
 use letter_acts::{Act, Frame, Icfg, Site, icfg};
@@ -167,24 +168,23 @@ fn add_all_sites(layout: &Layout<'_>, owners: &mut Vec<u32>) -> Result<(), Alloc
     Ok(())
 }
 
-/// The procedure of each place: of the start and its conditions the entry procedure, then of the places of each procedure, then of
+/// Adds the procedure of each place: of the start and its conditions the entry procedure, then of the places of each procedure, then of
 /// the places where its assertions fail.
-fn owners_of(alloc: Global, layout: &Layout<'_>) -> Result<Vec<u32>, AllocError>
-    ensures { IfOk result (λ os. os.items ≡ place_owners (typed_program layout.now)) }
+fn add_owners(layout: &Layout<'_>, owners: &mut Vec<u32>) -> Result<(), AllocError>
+    requires { owners.old.items ≡ [] }
+    ensures { OnOk result (owners.new.items ≡ place_owners (typed_program layout.now)) }
 {
-    let mut owners = Vec::new(alloc);
     let entry = layout.program().entry();
-    add_owner(&mut owners, entry, 1 + layout.start_conditions())?;
-    add_all_places(layout, &mut owners)?;
-    add_all_sites(layout, &mut owners)?;
-    Ok(owners)
+    add_owner(owners, entry, 1 + layout.start_conditions())?;
+    add_all_places(layout, owners)?;
+    add_all_sites(layout, owners)
 }
 
 /// The numbers of a procedure, where it has a body.
 fn body_marks(layout: &Layout<'_>, proc: u32) -> Option<Marks>
     ensures { result ≡ body_marks (typed_program layout.now) proc }
 {
-    let listed = layout.program().procs().get(proc as usize)?;
+    let listed = procedure_at(layout.program().procs(), proc)?;
     match &listed.body {
         Some(_) => layout.marks(proc),
         None => None,
@@ -207,37 +207,33 @@ fn exit_of(layout: &Layout<'_>, proc: u32) -> Option<u32>
     Some(marks.returns)
 }
 
-/// Where the body of each procedure begins.
-fn entries_of(alloc: Global, layout: &Layout<'_>) -> Result<Vec<Option<u32>>, AllocError>
-    ensures { IfOk result (λ es. es.items ≡ map (entry_of (typed_program layout.now)) (counted_procs 0 (typed_program layout.now).procs)) }
+/// Adds where the body of each procedure begins, and where it returns.
+fn add_ends(
+    layout: &Layout<'_>,
+    entries: &mut Vec<Option<u32>>,
+    exits: &mut Vec<Option<u32>>,
+) -> Result<(), AllocError>
+    requires entries { entries.old.items ≡ [] }
+    requires exits { exits.old.items ≡ [] }
+    ensures entries { OnOk result (entries.new.items ≡ map (entry_of (typed_program layout.now)) (counted_procs 0 (typed_program layout.now).procs)) }
+    ensures exits { OnOk result (exits.new.items ≡ map (exit_of (typed_program layout.now)) (counted_procs 0 (typed_program layout.now).procs)) }
 {
-    let mut found = Vec::new(alloc);
     for proc in 0..procedures(layout) {
-        found.push(entry_of(layout, proc))?;
+        entries.push(entry_of(layout, proc))?;
+        exits.push(exit_of(layout, proc))?;
     }
-    Ok(found)
+    Ok(())
 }
 
-/// Where the body of each procedure returns.
-fn exits_of(alloc: Global, layout: &Layout<'_>) -> Result<Vec<Option<u32>>, AllocError>
-    ensures { IfOk result (λ es. es.items ≡ map (exit_of (typed_program layout.now)) (counted_procs 0 (typed_program layout.now).procs)) }
+/// Adds the names of the procedures.
+fn add_names(procs: &[TProc], names: &mut Vec<Text>) -> Result<(), AllocError>
+    requires { names.old.items ≡ [] }
+    ensures { OnOk result (names.new.items ≡ map (λ q. q.name) (map view.procedure procs.now)) }
 {
-    let mut found = Vec::new(alloc);
-    for proc in 0..procedures(layout) {
-        found.push(exit_of(layout, proc))?;
-    }
-    Ok(found)
-}
-
-/// The names of the procedures.
-fn names_of(alloc: Global, procs: &[TProc]) -> Result<Vec<Text>, AllocError>
-    ensures { IfOk result (λ ns. ns.items ≡ map (λ q. q.name) (map view.procedure procs.now)) }
-{
-    let mut found = Vec::with_capacity(alloc, procs.len())?;
     for listed in procs {
-        found.push(listed.name.copy()?)?;
+        names.push(listed.name.copy()?)?;
     }
-    Ok(found)
+    Ok(())
 }
 
 /// What a graph lists of its procedures and places.
@@ -249,6 +245,22 @@ struct ProcedureLists {
     exits: Vec<Option<u32>>,
 }
 
+/// Fills the lists of a program.
+fn fill_lists(layout: &Layout<'_>, lists: &mut ProcedureLists) -> Result<(), AllocError>
+    requires names { lists.old.names.items ≡ [] }
+    requires owners { lists.old.owners.items ≡ [] }
+    requires entries { lists.old.entries.items ≡ [] }
+    requires exits { lists.old.exits.items ≡ [] }
+    ensures names { OnOk result (lists.new.names.items ≡ map (λ q. q.name) (typed_program layout.now).procs) }
+    ensures owners { OnOk result (lists.new.owners.items ≡ place_owners (typed_program layout.now)) }
+    ensures entries { OnOk result (lists.new.entries.items ≡ map (entry_of (typed_program layout.now)) (counted_procs 0 (typed_program layout.now).procs)) }
+    ensures exits { OnOk result (lists.new.exits.items ≡ map (exit_of (typed_program layout.now)) (counted_procs 0 (typed_program layout.now).procs)) }
+{
+    add_ends(layout, &mut lists.entries, &mut lists.exits)?;
+    add_owners(layout, &mut lists.owners)?;
+    add_names(layout.program().procs(), &mut lists.names)
+}
+
 /// The lists of a program.
 fn procedure_lists(alloc: Global, layout: &Layout<'_>) -> Result<ProcedureLists, AllocError>
     ensures names { IfOk result (λ l. l.names.items ≡ map (λ q. q.name) (typed_program layout.now).procs) }
@@ -256,16 +268,14 @@ fn procedure_lists(alloc: Global, layout: &Layout<'_>) -> Result<ProcedureLists,
     ensures entries { IfOk result (λ l. l.entries.items ≡ map (entry_of (typed_program layout.now)) (counted_procs 0 (typed_program layout.now).procs)) }
     ensures exits { IfOk result (λ l. l.exits.items ≡ map (exit_of (typed_program layout.now)) (counted_procs 0 (typed_program layout.now).procs)) }
 {
-    let entries = entries_of(alloc, layout)?;
-    let exits = exits_of(alloc, layout)?;
-    let owners = owners_of(alloc, layout)?;
-    let names = names_of(alloc, layout.program().procs())?;
-    Ok(ProcedureLists {
-        names,
-        owners,
-        entries,
-        exits,
-    })
+    let mut lists = ProcedureLists {
+        names: Vec::new(alloc),
+        owners: Vec::new(alloc),
+        entries: Vec::new(alloc),
+        exits: Vec::new(alloc),
+    };
+    fill_lists(layout, &mut lists)?;
+    Ok(lists)
 }
 
 /// The graph of parts that keep the invariant of graphs wherever the numbers of the columns of its acts have 32 bits. It is refused only

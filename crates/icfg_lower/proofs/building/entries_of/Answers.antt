@@ -1,9 +1,0 @@
-use Rattle.std.proofs.Common.{◌∙◌, arith}
-use Rattle.typed_tree.specs.TypingRules.TypedParts.{typed_program}
-use Rattle.icfg_lower.proofs.BodyEnds.{one_entry_more}
-use Rattle.icfg_lower.proofs.building.entries_of.Goals as goal
-
-pub loop-proc-preserved : goal.loop-proc-preserved
-loop-proc-preserved c =
-    one_entry_more (typed_program c.args.layout.now) c.loop-proc.proc c.entry_of.result c.loop-proc.found.items c.push.new.self.items (omega arith) c.entry_of.ensures c.in_ok-push.ensures.items
-    ∙ c.loop-proc.invariant

@@ -1,8 +1,0 @@
-use Rattle.std.proofs.Common.{◌≡◌, ◌++◌, map}
-use Rattle.typed_tree.specs.TypingRules.TypedParts.{typed_program}
-use Rattle.lowered_graph.specs.Lowered.{exit_of}
-use Rattle.icfg_lower.proofs.BodyEnds.{from_number}
-use Rattle.icfg_lower.proofs.building.exits_of.Given as goal
-
-abbrev pub invariant-loop-proc : goal.invariant-loop-proc
-invariant-loop-proc l = l.found.items ++ map (exit_of (typed_program l.layout)) (from_number (typed_program l.layout) l.proc) ≡ map (exit_of (typed_program l.layout)) (from_number (typed_program l.layout) 0)
