@@ -25,19 +25,13 @@ use lowered_graph::laws::{
 use std::alloc::{AllocError, Global};
 use typed_tree::typing_rules::Typed;
 
-/// What the graph of a typed program is worth.
-fn is_faithful(program: &Typed)
-    ensures { IsFaithful (typed_program program.now) (lowered (typed_program program.now)) }
-{
-    lowering_is_faithful();
-    let _globals = program.globals();
-}
-
-/// What the graph of a typed program keeps.
-fn is_graph(program: &Typed)
+/// What the graph of a typed program is worth, and what it keeps.
+fn laws(program: &Typed)
+    ensures faithful { IsFaithful (typed_program program.now) (lowered (typed_program program.now)) }
     ensures automaton { IsAutomaton (lowered (typed_program program.now)).automaton }
     ensures kept { ActsFit (alphabet_of (lowered (typed_program program.now))) → IsGraph (lowered (typed_program program.now)) }
 {
+    lowering_is_faithful();
     lowered_programs_have_automata();
     lowered_programs_are_graphs();
     let _globals = program.globals();
@@ -63,8 +57,7 @@ pub fn lower(alloc: Global, program: &Typed) -> Result<Icfg, LowerFault>
     ensures too_big { (at : Span) → result ≡ Err (LowerFault.TooBig at) → items.first_fault (typed_program program.now) ≡ Some (items.TooBig at) }
     ensures faithful { IfOk result (λ i. IsFaithful (typed_program program.now) i) }
 {
-    is_faithful(program);
-    is_graph(program);
+    laws(program);
     let layout = lay_out(alloc, program)?;
     let Lowered {
         table,
