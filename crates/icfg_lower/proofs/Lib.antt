@@ -2,6 +2,7 @@ pub mod SiteCounts
 pub mod PlaceOwners
 pub mod BodyEnds
 mod AutomatonParts
+mod ReadSteps
 pub mod CallJumps
 pub mod ProgramLayout
 pub mod PlaceEdges

@@ -124,9 +124,9 @@ fn told_demanded(
     let first = all_count(alloc, globals, args)?;
     let second = product_count(alloc, globals, false, cond)?;
     let count = column_behind(first, second as usize)?;
+    let behind = column_behind(0, args.len())?;
     let wide = widened(alloc, frame, locals, count)?;
     let passing = passed_arguments(alloc, globals, locals, args, cond.span, second)?;
-    let behind = column_behind(0, args.len())?;
     let made = freed(alloc, globals, behind, false, cond)?;
     let conjs = passed(alloc, &wide, passing.as_slice(), &made.expr, want)?;
     Ok(letters_over(alloc, frame, count, 0, conjs.as_slice())?)

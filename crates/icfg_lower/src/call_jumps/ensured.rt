@@ -1,6 +1,6 @@
 //! The ensures of procedures without body over numbered columns.
 
-ghost use Rattle.std.specs.Prelude.{◌≡◌, ◌+◌, ◌++◌, ℕ, true, false, IfOk, List, [], ◌∷◌, length, map, take, drop};
+ghost use Rattle.std.specs.Prelude.{◌≡◌, ◌+◌, ◌++◌, ℕ, true, false, IfOk, OnOk, List, [], ◌∷◌, length, map, take, drop};
 ghost use Rattle.std.specs.List.{AllByRecursion};
 ghost use Rattle.typed_tree.specs.TypedView.{expression, procedure, specification};
 ghost use Rattle.typed_tree.specs.AffineForm.{forms_fit};
@@ -78,23 +78,22 @@ fn with_products(locals: Vec<Standing>, first: u32, count: u32) -> Result<Vec<St
 
 // ---- the conditions as they are read
 
-/// The conditions so far, and behind them the one of a specification, if it is an ensures.
-fn with_condition(
+/// Adds the condition of a specification over numbered columns, if it is an ensures.
+fn add_condition(
     alloc: Global,
     reader: &Reader<'_>,
-    conds: Vec<TExpr>,
+    conds: &mut Vec<TExpr>,
     spec: &TSpec,
-) -> Result<Vec<TExpr>, AllocError>
-    ensures { IfOk result (λ es. map expression es.items ≡
-        map expression conds.items ++ map (read_by (stands_of reader.now) false) (ensured (specification spec.now ∷ []))) }
+) -> Result<(), AllocError>
+    ensures { OnOk result (map expression conds.new.items ≡
+        map expression conds.old.items ++ map (read_by (stands_of reader.now) false) (ensured (specification spec.now ∷ []))) }
 {
     match spec {
-        TSpec::Requires(_) => Ok(conds),
+        TSpec::Requires(_) => Ok(()),
         TSpec::Ensures(ensured) => {
             let cond = read(alloc, reader, false, &ensured.cond)?;
-            let mut conds = conds;
             conds.push(cond)?;
-            Ok(conds)
+            Ok(())
         }
     }
 }
@@ -109,7 +108,7 @@ fn ensures_read(
 {
     let mut conds = Vec::new(alloc);
     for spec in specs {
-        conds = with_condition(alloc, reader, conds, spec)?;
+        add_condition(alloc, reader, &mut conds, spec)?;
     }
     Ok(conds)
 }
@@ -151,25 +150,24 @@ pub fn ensures_count(alloc: Global, globals: &[VarInfo], specs: &[TSpec]) -> Res
     Ok(count)
 }
 
-/// The conditions so far, and behind them the one of a specification, as its products are told, if it is an ensures.
-fn with_told(
+/// Adds the condition of a specification, as its products are told, if it is an ensures.
+fn add_told(
     alloc: Global,
     globals: &[VarInfo],
     args: &[TExpr],
-    told: Vec<TExpr>,
+    told: &mut Vec<TExpr>,
     spec: &TSpec,
-) -> Result<Vec<TExpr>, AllocError>
+) -> Result<(), AllocError>
     requires { AllByRecursion (λ e. forms_fit (is_constant_column globals.now) false e ≡ true) (ensured (specification spec.now ∷ [])) }
-    ensures { IfOk result (λ es. map expression es.items ≡
-        map expression told.items ++ map (told_condition (is_constant_column globals.now) (map expression args.now)) (ensured (specification spec.now ∷ []))) }
+    ensures { OnOk result (map expression told.new.items ≡
+        map expression told.old.items ++ map (told_condition (is_constant_column globals.now) (map expression args.now)) (ensured (specification spec.now ∷ []))) }
 {
     match spec {
-        TSpec::Requires(_) => Ok(told),
+        TSpec::Requires(_) => Ok(()),
         TSpec::Ensures(ensured) => {
             let cond = told_condition(alloc, globals, args, &ensured.cond)?;
-            let mut told = told;
             told.push(cond)?;
-            Ok(told)
+            Ok(())
         }
     }
 }
@@ -187,7 +185,7 @@ pub fn ensures_told(
 {
     let mut told = Vec::new(alloc);
     for spec in specs {
-        told = with_told(alloc, globals, args, told, spec)?;
+        add_told(alloc, globals, args, &mut told, spec)?;
     }
     Ok(told)
 }
@@ -292,9 +290,9 @@ pub fn freed_conditions(
         (all_freed (is_constant_column globals.now) locals (map expression args.now)) targets.now (whole_columns first count)
         (all_freed (is_constant_column globals.now) (length args.now + length (take callee.now.results (drop callee.now.params callee.now.locals.items))) (map expression told.now))) }
 {
-    let passed = all_freed(alloc, globals, locals, args)?;
     let results = results(callee);
     let behind = column_behind(column_behind(0, args.len())?, results.len())?;
+    let passed = all_freed(alloc, globals, locals, args)?;
     let made = all_freed(alloc, globals, behind, told)?;
     let passed = passed.exprs.as_slice();
     let made = made.exprs.as_slice();

@@ -85,6 +85,7 @@ fn plain_imported(
     let layout = laid_out(alloc, base, callee, targets)?;
     let conds = plain_conditions(alloc, globals, frame, callee, args, targets, &layout)?;
     let conjs = numbered_paths(alloc, layout.width, conds.as_slice())?;
+    drop(conds);
     let letters = all_exact(alloc, conjs)?;
     let conjs = behind_helpers(alloc, layout.targeted.len(), letters)?;
     Ok(Import {
@@ -127,14 +128,16 @@ fn told_imported(
     let first = all_count(alloc, globals, args)?;
     let second = all_count(alloc, globals, told)?;
     let count = column_behind(first, second as usize)?;
-    let wide = widened(alloc, frame, locals, count)?;
     let base = column_behind(low, count as usize)?;
-    let layout = laid_out(alloc, base, callee, targets)?;
     let products = column_behind(low, first as usize)?;
+    let layout = laid_out(alloc, base, callee, targets)?;
+    let wide = widened(alloc, frame, locals, count)?;
     let conds = freed_conditions(
         alloc, globals, &wide, locals, callee, args, targets, &layout, products, second, told,
     )?;
+    drop(wide);
     let conjs = numbered_paths(alloc, layout.width, conds.as_slice())?;
+    drop(conds);
     let own = layout.targeted.len();
     let more = layout.written.len() + own;
     let letters = letters_over(alloc, frame, count, more, conjs.as_slice())?;

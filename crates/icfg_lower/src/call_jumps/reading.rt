@@ -8,6 +8,7 @@ ghost use Rattle.icfg_lower.specs.CallJumps.Ties.Stands.{stands_of};
 
 use crate::call_jumps::reader::Reader;
 use crate::call_jumps::rebuilding::{binary, division, equality, negation, negative, product};
+use crate::call_jumps::types::result_type;
 use boogie_tree::{Column, Op, Span, Ty};
 use std::alloc::{AllocError, Global};
 use typed_tree::{TExpr, TExprKind};
@@ -34,10 +35,7 @@ fn is_truth(reader: &Reader<'_>, old: bool, expr: &TExpr) -> Result<bool, AllocE
             Ok(matches!(&standing.ty, Some(Ty::Bool)))
         }
         TExprKind::Old(inner) => is_truth(reader, true, inner),
-        TExprKind::Bin(op, _, _) => Ok(!matches!(
-            op,
-            Op::Add | Op::Sub | Op::Mul | Op::Div | Op::Mod
-        )),
+        TExprKind::Bin(op, _, _) => Ok(matches!(result_type(*op), Ty::Bool)),
     }
 }
 

@@ -62,26 +62,24 @@ pub fn product(
 ) -> Result<TExpr, AllocError>
     ensures { IfOk result (λ e. expression e ≡ product span (expression a.now) (expression b.now) (expression x) (expression y)) }
 {
-    let rest = without_constant(alloc, span, x, a)?;
-    let first = times_constant(alloc, span, rest, b)?;
+    let rest = with_constant(alloc, span, Op::Sub, x, a)?;
+    let first = with_constant(alloc, span, Op::Mul, rest, b)?;
     let second = constant_times(alloc, span, a, y)?;
     binary(alloc, span, Op::Add, first, second)
 }
 
-/// `x - k`, where k is the constant of `a`.
-fn without_constant(alloc: Global, span: Span, x: TExpr, a: &TExpr) -> Result<TExpr, AllocError>
-    ensures { IfOk result (λ e. expression e ≡ Bin span Op.Sub (expression x) (constant_part (expression a.now))) }
+/// An operation on `x` and the constant of `a`.
+fn with_constant(
+    alloc: Global,
+    span: Span,
+    op: Op,
+    x: TExpr,
+    a: &TExpr,
+) -> Result<TExpr, AllocError>
+    ensures { IfOk result (λ e. expression e ≡ Bin span op (expression x) (constant_part (expression a.now))) }
 {
     let constant = constant_part(alloc, a)?;
-    binary(alloc, span, Op::Sub, x, constant)
-}
-
-/// `x*l`, where l is the constant of `b`.
-fn times_constant(alloc: Global, span: Span, x: TExpr, b: &TExpr) -> Result<TExpr, AllocError>
-    ensures { IfOk result (λ e. expression e ≡ Bin span Op.Mul (expression x) (constant_part (expression b.now))) }
-{
-    let constant = constant_part(alloc, b)?;
-    binary(alloc, span, Op::Mul, x, constant)
+    binary(alloc, span, op, x, constant)
 }
 
 /// `k*y`, where k is the constant of `a`.

@@ -1,6 +1,7 @@
 //! The types of arguments in the caller's frame.
 
 ghost use Rattle.std.specs.Prelude.{◌≡◌, IfOk};
+ghost use Rattle.std.specs.Option.{option_and_then};
 ghost use Rattle.typed_tree.specs.TypedView.{expression};
 ghost use Rattle.typed_tree.specs.Typing.{only, operand_type, result_type, operation_type};
 ghost use Rattle.cond_jumps.specs.Environments.{type_in};
@@ -35,7 +36,7 @@ fn operand_type(op: Op) -> Option<Ty>
 }
 
 /// The type of what an operator gives.
-fn result_type(op: Op) -> Ty
+pub fn result_type(op: Op) -> Ty
     ensures { result ≡ result_type op }
 {
     match op {
@@ -58,10 +59,13 @@ fn operation_type(op: Op, a: Ty, b: Ty) -> Option<Ty>
 }
 
 /// The wanted type, where the operand has it.
-fn only(wanted: Ty, found: Ty) -> Option<Ty>
-    ensures { result ≡ only wanted found }
+fn only(wanted: Ty, found: Option<Ty>) -> Option<Ty>
+    ensures { result ≡ option_and_then (only wanted) found }
 {
-    if found == wanted { Some(found) } else { None }
+    match found {
+        None => None,
+        Some(ty) => if ty == wanted { Some(ty) } else { None },
+    }
 }
 
 /// The type of an expression that is read at the procedure's entry or now; none where the types of its operators are broken.
@@ -73,14 +77,8 @@ pub fn type_in(frame: &Frame, old: bool, expr: &TExpr) -> Result<Option<Ty>, All
         TExprKind::Truth(_) => Ok(Some(Ty::Bool)),
         TExprKind::Var(column) => column_type(frame, read_at(old, *column)),
         TExprKind::Old(inner) => type_in(frame, true, inner),
-        TExprKind::Not(inner) => match type_in(frame, old, inner)? {
-            None => Ok(None),
-            Some(found) => Ok(only(Ty::Bool, found)),
-        },
-        TExprKind::Neg(inner) => match type_in(frame, old, inner)? {
-            None => Ok(None),
-            Some(found) => Ok(only(Ty::Int, found)),
-        },
+        TExprKind::Not(inner) => Ok(only(Ty::Bool, type_in(frame, old, inner)?)),
+        TExprKind::Neg(inner) => Ok(only(Ty::Int, type_in(frame, old, inner)?)),
         TExprKind::Bin(op, left, right) => {
             let Some(first) = type_in(frame, old, left)? else {
                 return Ok(None);
