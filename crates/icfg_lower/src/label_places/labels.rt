@@ -11,6 +11,7 @@ ghost use Rattle.icfg_lower.specs.LabelPlaces.Ties.Ways.{places_in, places_of};
 use crate::label_places::ends::before_last_labels;
 use crate::program_layout::Layout;
 use boogie_run::boogie_points::counts::{block_points, points};
+use boogie_run::boogie_points::procedure_at;
 use std::alloc::{AllocError, Global};
 use typed_tree::{TProc, TStmt};
 
@@ -79,7 +80,7 @@ fn add_inner(
 fn statements_of(procs: &[TProc], proc: u32) -> Option<&[TStmt]>
     ensures { option_map (λ b. view.statements b.now) result ≡ option_and_then (λ q. q.body) (slice_get (map view.procedure procs.now) proc) }
 {
-    let listed = procs.get(proc as usize)?;
+    let listed = procedure_at(procs, proc)?;
     match &listed.body {
         Some(statements) => Some(statements),
         None => None,

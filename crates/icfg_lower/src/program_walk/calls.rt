@@ -28,6 +28,7 @@ use crate::place_edges::{
     Called, Here, Lowering, NO_TROUBLE, Trouble, demand, either, enter, import,
 };
 use crate::program_layout::Layout;
+use boogie_run::boogie_points;
 use std::alloc::AllocError;
 use typed_tree::{TExpr, TInv, TProc, TSpec};
 
@@ -37,7 +38,7 @@ pub(crate) fn procedure_at<'a>(layout: &Layout<'a>, number: u32) -> &'a TProc
     ensures valid { IsTrue (is_valid (typed_program layout.now)) }
     ensures listed { slice_get (typed_program layout.now).procs number ≡ Some (view.procedure result.now) }
 {
-    layout.program().procs().get(number as usize).unwrap()
+    boogie_points::procedure_at(layout.program().procs(), number).unwrap()
 }
 
 /// A requires that is not free.

@@ -4,6 +4,7 @@ use Rattle.lowered_graph.specs.LoweredSteps.ProgramFrames.{frame_at, column_numb
 use Rattle.lowered_graph.specs.LoweredSteps.Edges.{numbers_in}
 use Rattle.icfg_lower.specs.ProgramLayout.Layouts.{StandsIn}
 use Rattle.typed_tree.specs.TypingRules.TypedParts.{typed_program}
+use Rattle.std.proofs.lemmas.List.{take_all}
 use Rattle.icfg_lower.proofs.PlaceEdges.LeadLemmas.{each_of, one_more}
 use Rattle.icfg_lower.proofs.place_edges.columns.numbers.Goals as goal
 
@@ -17,3 +18,6 @@ loop-column-preserved c = λ n h.
     ∙ (ap (λ m. numbers_in (frame_at (typed_program c.args.layout.now) n) (take c.loop-column.column-index c.args.columns.now) ++ m ∷ [])
     (c.column.ensures n (each_of (StandsIn (frame_at (typed_program c.args.layout.now) n)) c.args.columns.now c.loop-column.column-index (Global 0) c.loop-column-test.true h))
     ∙ sym (one_more (column_number (frame_at (typed_program c.args.layout.now) n)) c.args.columns.now c.loop-column.column-index (Global 0) c.loop-column-test.true)))
+
+pub returns : goal.returns
+returns c = λ n h. c.loop-column.invariant n h ∙ ap (numbers_in (frame_at (typed_program c.args.layout.now) n)) (take_all c.loop-column.column-index c.args.columns.now c.loop-column-test.false)
