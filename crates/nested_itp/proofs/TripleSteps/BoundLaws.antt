@@ -3,6 +3,7 @@ use Rattle.std.proofs.Common.{◌≡◌, ◌≢◌, ◌∙◌, ℕ, ◌+◌, ◌
 use Rattle.std.specs.Prelude.{filter, nat_eq, not, if◌then◌else◌}
 use Rattle.std.proofs.lemmas.Bool.{eqb-true}
 use Rattle.std.proofs.lemmas.List.{append-nil, drop_more, drop_all}
+use Rattle.std.proofs.lemmas.List.Filters.{length-filter_both}
 use Rattle.boogie_tree.specs.declared.tree.VarInfo.{VarInfo}
 use Rattle.boogie_tree.specs.declared.tree.Column.{Column}
 use Rattle.boogie_tree.specs.declared.tree.Column.TheVariants.{Global, Old, Local}
@@ -19,6 +20,17 @@ use Rattle.nested_itp.specs.NestedRefutations.Numbers.{spares, branch_rows, boun
 use Rattle.nested_itp.specs.declared.triple_steps.sections.Section.{Section}
 use Rattle.nested_itp.specs.TripleSteps.Sections.{section_roles, roles_in, AddsNoClaim, AddsRoles}
 use Rattle.nested_itp.proofs.TripleSteps.RoleLaws.{roles_pushed, adds_more}
+
+-- no more are chosen than there are
+pub few_chosen : {X : Type 0} (p : X → Bool) (xs : List X) → length (filter p xs) ≤ length xs
+few_chosen p xs = let e = length-filter_both p (λ x. not (p x)) (λ x. refl) xs in omega (arith, e)
+
+pub few_bounds : (p : (Column × VarInfo) → Bool) (frame : Columns) → bounds_in (filter p frame) ≤ length frame + length frame
+few_bounds p frame =
+    let t : bounds_in (filter p frame) ≡ length (filter is_bool (filter p frame)) + length (filter is_bool (filter p frame)) = types_counted 0 (filter p frame) in
+    let b = few_chosen is_bool (filter p frame) in
+    let l = few_chosen p frame in
+    omega (arith, t, b, l)
 
 pub bounds_twice : (frame : Columns) (b n : ℕ) → b ≡ length (filter is_bool frame) → n ≡ b + b → n ≡ bounds_in frame
 bounds_twice frame b n e f = let t : bounds_in frame ≡ length (filter is_bool frame) + length (filter is_bool frame) = types_counted 0 frame in omega (arith, e, f, t)

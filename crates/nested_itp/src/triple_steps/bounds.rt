@@ -1,6 +1,6 @@
 //! The bounds of a system's columns.
 
-ghost use Rattle.std.specs.Prelude.{◌≡◌, ◌++◌, ◌∷◌, [], IfOk, OnOk, List, length};
+ghost use Rattle.std.specs.Prelude.{◌≡◌, ◌++◌, ◌∷◌, [], suc, OnOk, List, length};
 ghost use Rattle.nwa_base.specs.declared.letters.Letter.{Letter};
 ghost use Rattle.letter_acts.specs.Frames.{Columns};
 ghost use Rattle.letter_acts.specs.Invariant.{Graph};
@@ -20,51 +20,48 @@ use boogie_tree::{Column, VarInfo};
 use std::alloc::AllocError;
 
 /// How many rows bound the columns of a frame: two for each boolean.
-pub(crate) fn bounds_in(frame: &[(Column, VarInfo)]) -> Result<usize, AllocError>
-    ensures { IfOk result (λ n. n ≡ bounds_in frame.now) }
+pub(crate) fn bounds_in(frame: &[(Column, VarInfo)]) -> usize
+    ensures { result ≡ bounds_in frame.now }
 {
     let booleans = bool_count(frame);
-    sum(booleans, booleans)
+    booleans + booleans
 }
 
 /// How many bound its parameters, results and locals.
-pub(crate) fn local_bounds(frame: &[(Column, VarInfo)]) -> Result<usize, AllocError>
-    ensures { IfOk result (λ n. n ≡ bounds_in (local_columns frame.now)) }
+pub(crate) fn local_bounds(frame: &[(Column, VarInfo)]) -> usize
+    ensures { result ≡ bounds_in (local_columns frame.now) }
 {
     let booleans = bool_local_count(frame);
-    sum(booleans, booleans)
+    booleans + booleans
 }
 
 /// How many bound its old columns.
-pub(crate) fn old_bounds(frame: &[(Column, VarInfo)]) -> Result<usize, AllocError>
-    ensures { IfOk result (λ n. n ≡ bounds_in (old_part frame.now)) }
+pub(crate) fn old_bounds(frame: &[(Column, VarInfo)]) -> usize
+    ensures { result ≡ bounds_in (old_part frame.now) }
 {
     let booleans = bool_old_count(frame);
-    sum(booleans, booleans)
+    booleans + booleans
 }
 
 /// How many bound these columns of it.
-pub(crate) fn bounds_at(frame: &[(Column, VarInfo)], columns: &[u32]) -> Result<usize, AllocError>
-    ensures { IfOk result (λ n. n ≡ length (bounds 0 (types_at frame.now columns.now))) }
+pub(crate) fn bounds_at(frame: &[(Column, VarInfo)], columns: &[u32]) -> usize
+    ensures { result ≡ length (bounds 0 (types_at frame.now columns.now)) }
 {
     let booleans = bool_count_at(frame, columns);
-    sum(booleans, booleans)
+    booleans + booleans
 }
 
-/// The bounds of the frame before a letter, of a return before its call: of the first letter they are the start's, which are
-/// counted with it. Of another letter no leaf uses them.
-pub(crate) fn before_bounds(
-    frame: &[(Column, VarInfo)],
-    number: usize,
-) -> Result<Section, AllocError>
-    ensures roles { IfOk result (λ s. (g : Graph) (w : List Letter) (t : Tree) (v : View) → section_roles g w t v s ≡ before_bounds number frame.now) }
-    ensures plain { IfOk result (λ s. claims_in (s ∷ []) ≡ []) }
+/// The bounds of the frame before a letter, of a return before its call, where so many letters stand before that one: of the first
+/// letter they are the start's, which are counted with it. Of another letter no leaf uses them.
+pub(crate) fn before_bounds(frame: &[(Column, VarInfo)], letters: usize) -> Section
+    ensures roles { (g : Graph) (w : List Letter) (t : Tree) (v : View) → section_roles g w t v result ≡ before_bounds (suc letters) frame.now }
+    ensures plain { claims_in (result ∷ []) ≡ [] }
 {
-    let count = bounds_in(frame)?;
-    if number == 1 {
-        Ok(Section::Rows { first: 0, count })
+    let count = bounds_in(frame);
+    if letters == 0 {
+        Section::Rows { first: 0, count }
     } else {
-        Ok(Section::Spare(count))
+        Section::Spare(count)
     }
 }
 

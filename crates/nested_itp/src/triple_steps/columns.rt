@@ -1,10 +1,14 @@
 //! Where the columns of a word stand in the system of a letter's triple.
 
 ghost use Rattle.std.specs.Prelude.{◌≡◌, ◌++◌, ◌+◌, ◌<◌, ◌^◌, IfOk, OnOk, map};
+ghost use Rattle.letter_acts.specs.Frames.{places};
 ghost use Rattle.letter_acts.specs.FrameRows.Rows.{columns_from};
+ghost use Rattle.nested_itp.specs.TripleSteps.Ties.Classes.{is_of};
 
+use crate::triple_steps::classes::{Class, places};
+use boogie_tree::{Column, VarInfo};
 use lin_rows::Col;
-use std::alloc::AllocError;
+use std::alloc::{AllocError, Global};
 
 /// Where the columns of a word stand in the system of a letter's triple.
 #[derive(Drop)]
@@ -33,7 +37,7 @@ impl Columns {
         ensures made { IfOk result (λ c. c.made.items ≡ made.items) }
         ensures fit { IfOk result (FitColumns total) }
     {
-        let _end = narrowed(sum(at, total)?)?;
+        let _end = column_at(at, total)?;
         Ok(Columns { at, first, made })
     }
 
@@ -74,24 +78,37 @@ pub(crate) fn narrowed(count: usize) -> Result<Col, AllocError>
     }
 }
 
+/// The column that stands so many behind another.
+fn column_at(first: usize, count: usize) -> Result<Col, AllocError>
+    ensures value { IfOk result (λ c. c ≡ first + count) }
+    ensures small { OnOk result (first + count < 2 ^ 32) }
+{
+    narrowed(sum(first, count)?)
+}
+
 /// Adds so many columns in order, from one on.
 pub(crate) fn add_columns(made: &mut Vec<Col>, first: usize, count: usize) -> Result<(), AllocError>
     ensures { OnOk result (made.new.items ≡ made.old.items ++ columns_from first count) }
 {
     for i in 0..count {
-        let column = narrowed(sum(first, i)?)?;
-        made.push(column)?;
+        made.push(column_at(first, i)?)?;
     }
     Ok(())
 }
 
-/// Adds the columns of a frame at these places, where the frame's columns stand from one on.
-pub(crate) fn add_places(made: &mut Vec<Col>, at: usize, places: &[u32]) -> Result<(), AllocError>
-    ensures { OnOk result (made.new.items ≡ made.old.items ++ map (λ c. at + c) places.now) }
+/// Adds the columns of a class of a frame, where the frame's columns stand from one on.
+pub(crate) fn add_places(
+    alloc: Global,
+    made: &mut Vec<Col>,
+    at: usize,
+    frame: &[(Column, VarInfo)],
+    class: Class,
+) -> Result<(), AllocError>
+    ensures { OnOk result (made.new.items ≡ made.old.items ++ map (λ c. at + c) (places (is_of class) 0 frame.now)) }
 {
+    let places = places(alloc, frame, class)?;
     for i in 0..places.len() {
-        let column = narrowed(sum(at, places[i] as usize)?)?;
-        made.push(column)?;
+        made.push(column_at(at, places[i] as usize)?)?;
     }
     Ok(())
 }

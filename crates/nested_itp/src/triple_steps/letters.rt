@@ -18,7 +18,7 @@ use crate::nested_predicates::acts::old_count;
 use crate::triple_steps::bounds::{
     add_callee_bounds, before_bounds, bounds_at, bounds_in, local_bounds,
 };
-use crate::triple_steps::classes::{Class, olds, places};
+use crate::triple_steps::classes::{Class, olds};
 use crate::triple_steps::columns::{Columns, add_columns, add_places, sum};
 use crate::triple_steps::making::Step;
 use crate::triple_steps::readings::{OpenCall, Reading};
@@ -43,14 +43,12 @@ pub(crate) fn inside_step(
     ensures step { IfOk result (IsInsideStep reading.now frame.now written.now helpers rows) }
     ensures fit { IfOk result (λ s. FitColumns total s.columns) }
 {
-    let count = sum(written.len(), helpers as usize)?;
+    let target = sum(reading.letters, 1)?;
     let mut made = Vec::new(alloc);
-    add_columns(&mut made, frame.len(), count)?;
+    add_columns(&mut made, frame.len(), written.len() + helpers as usize)?;
     let columns = Columns::of(0, reading.made, made, total)?;
     let sections = inside_sections(alloc, reading, frame, written, rows)?;
-    let target = sum(reading.letters, 1)?;
-    let mut sources = Vec::new(alloc);
-    sources.push(reading.letters)?;
+    let sources = vec![in alloc; reading.letters]?;
     Ok(Step {
         sources,
         target,
@@ -71,33 +69,15 @@ fn inside_sections(
     ensures roles { IfOk result (λ ss. (g : Graph) (w : List Letter) (t : Tree) (v : View) → roles_in g w t v ss.items ≡ claim_roles g w t v 0 (slice_get v.claims 0) ++ branch_rows reading.now.rows rows ++ claim_roles g w t v 1 (slice_get v.claims 1) ++ before_bounds (suc reading.now.letters) frame.now ++ branch_rows (reading.now.rows + rows) (length (bounds 0 (types_at frame.now written.now)))) }
     ensures stand { IfOk result (λ ss. ClaimsStand ss.items (0 ∷ 1 ∷ []) (0 ∷ rows ∷ [])) }
 {
-    let mut sections = Vec::new(alloc);
-    sections.push(Section::Claim(0))?;
-    sections.push(Section::Rows {
+    let own = Section::Rows {
         first: reading.rows,
         count: rows,
-    })?;
-    sections.push(Section::Claim(1))?;
-    add_inside_bounds(&mut sections, reading, frame, written, rows)?;
-    Ok(sections)
-}
-
-/// Adds the bounds before an inside letter, and of what it writes.
-fn add_inside_bounds(
-    sections: &mut Vec<Section>,
-    reading: &Reading,
-    frame: &[(Column, VarInfo)],
-    written: &[u32],
-    rows: usize,
-) -> Result<(), AllocError>
-    ensures { OnOk result (AddsRoles sections.old.items sections.new.items (before_bounds (suc reading.now.letters) frame.now ++ branch_rows (reading.now.rows + rows) (length (bounds 0 (types_at frame.now written.now))))) }
-{
-    let before = before_bounds(frame, sum(reading.letters, 1)?)?;
+    };
+    let before = before_bounds(frame, reading.letters);
     let first = sum(reading.rows, rows)?;
-    let count = bounds_at(frame, written)?;
-    sections.push(before)?;
-    sections.push(Section::Rows { first, count })?;
-    Ok(())
+    let count = bounds_at(frame, written);
+    let bounds = Section::Rows { first, count };
+    Ok(vec![in alloc; Section::Claim(0), own, Section::Claim(1), before, bounds]?)
 }
 
 /// That of a call with so many rows, which returns or does not.
@@ -114,13 +94,12 @@ pub(crate) fn call_step(
     ensures step { IfOk result (IsCallStep reading.now returns caller.now callee.now helpers rows) }
     ensures fit { IfOk result (λ s. FitColumns total s.columns) }
 {
-    let helpers_at = sum(caller.len(), callee.len())?;
+    let target = sum(reading.letters, 1)?;
+    let helpers_at = caller.len() + callee.len();
     let made = made_by_call(alloc, caller.len(), helpers_at, helpers, callee)?;
     let columns = Columns::of(0, reading.made, made, total)?;
     let sections = call_sections(alloc, reading, returns, caller, callee, rows)?;
-    let target = sum(reading.letters, 1)?;
-    let mut sources = Vec::new(alloc);
-    sources.push(reading.letters)?;
+    let sources = vec![in alloc; reading.letters]?;
     Ok(Step {
         sources,
         target,
@@ -140,12 +119,10 @@ fn made_by_call(
 ) -> Result<Vec<Col>, AllocError>
     ensures { IfOk result (λ v. v.items ≡ made_by_call at helpers_at helpers callee.now) }
 {
-    let locals = places(alloc, callee, Class::Local)?;
-    let olds = places(alloc, callee, Class::Old)?;
     let mut made = Vec::new(alloc);
-    add_places(&mut made, at, &locals)?;
+    add_places(alloc, &mut made, at, callee, Class::Local)?;
     add_columns(&mut made, helpers_at, helpers as usize)?;
-    add_places(&mut made, at, &olds)?;
+    add_places(alloc, &mut made, at, callee, Class::Old)?;
     Ok(made)
 }
 
@@ -199,9 +176,8 @@ fn add_call_bounds(
     ensures { OnOk result (AddsRoles sections.old.items sections.new.items ((if returns then spares (bounds_in caller.now) else before_bounds (suc reading.now.letters) caller.now) ++ callee_bounds (reading.now.rows + rows + length (old_part callee.now)) (reading.now.rows + rows + length (old_part callee.now) + bounds_in (local_columns callee.now)) callee.now)) }
 {
     let local = sum(sum(reading.rows, rows)?, old_count(callee))?;
-    let old = sum(local, local_bounds(callee)?)?;
-    let before = caller_bounds(returns, caller, sum(reading.letters, 1)?)?;
-    sections.push(before)?;
+    let old = sum(local, local_bounds(callee))?;
+    sections.push(caller_bounds(returns, caller, reading.letters))?;
     add_callee_bounds(sections, callee, local, old)
 }
 
@@ -239,19 +215,15 @@ fn call_rows(returns: bool, first: usize, count: usize) -> Section
     }
 }
 
-/// The bounds of the frame before a call with this number. Where it returns no leaf uses them.
-fn caller_bounds(
-    returns: bool,
-    caller: &[(Column, VarInfo)],
-    number: usize,
-) -> Result<Section, AllocError>
-    ensures roles { IfOk result (λ s. (g : Graph) (w : List Letter) (t : Tree) (v : View) → section_roles g w t v s ≡ (if returns then spares (bounds_in caller.now) else before_bounds number caller.now)) }
-    ensures plain { IfOk result (λ s. claims_in (s ∷ []) ≡ []) }
+/// The bounds of the frame before a call, before which so many letters stand. Where it returns no leaf uses them.
+fn caller_bounds(returns: bool, caller: &[(Column, VarInfo)], letters: usize) -> Section
+    ensures roles { (g : Graph) (w : List Letter) (t : Tree) (v : View) → section_roles g w t v result ≡ (if returns then spares (bounds_in caller.now) else before_bounds (suc letters) caller.now) }
+    ensures plain { claims_in (result ∷ []) ≡ [] }
 {
     if returns {
-        Ok(Section::Spare(bounds_in(caller)?))
+        Section::Spare(bounds_in(caller))
     } else {
-        before_bounds(caller, number)
+        before_bounds(caller, letters)
     }
 }
 
@@ -271,20 +243,11 @@ pub(crate) fn back_step(
     ensures step { IfOk result (IsBackStep reading.now call caller.now callee.now helpers rows targets.now) }
     ensures fit { IfOk result (λ s. FitColumns total s.columns) }
 {
-    let written = written(alloc, caller, targets)?;
     let target = sum(reading.letters, 1)?;
-    let columns = back_columns(
-        alloc,
-        call,
-        caller.len(),
-        callee,
-        helpers,
-        written.len(),
-        total,
-    )?;
+    let written = written(alloc, caller, targets)?;
+    let columns = back_columns(alloc, call, caller, callee, helpers, &written, total)?;
     let sections = back_sections(alloc, call, caller, callee, rows, targets, &written)?;
-    let mut sources = Vec::new(alloc);
-    add_sources(&mut sources, reading, call)?;
+    let sources = vec![in alloc; reading.letters, call.at]?;
     Ok(Step {
         sources,
         target,
@@ -294,37 +257,24 @@ pub(crate) fn back_step(
     })
 }
 
-/// Where the columns of a word stand that has so many, where the caller's frame has so many and so many are written.
+/// Where the columns of a word stand that has so many, where these are written.
 fn back_columns(
     alloc: Global,
     call: OpenCall,
-    caller: usize,
+    caller: &[(Column, VarInfo)],
     callee: &[(Column, VarInfo)],
     helpers: u32,
-    written: usize,
+    written: &[u32],
     total: usize,
 ) -> Result<Columns, AllocError>
     ensures at { IfOk result (λ c. c.at ≡ length callee.now) }
     ensures first { IfOk result (λ c. c.first ≡ call.made) }
-    ensures made { IfOk result (λ c. c.made.items ≡ made_by_call 0 (length callee.now + caller + written) helpers callee.now) }
+    ensures made { IfOk result (λ c. c.made.items ≡ made_by_call 0 (length callee.now + length caller.now + length written.now) helpers callee.now) }
     ensures fit { IfOk result (FitColumns total) }
 {
-    let helpers_at = sum(sum(callee.len(), caller)?, written)?;
+    let helpers_at = callee.len() + caller.len() + written.len();
     let made = made_by_call(alloc, 0, helpers_at, helpers, callee)?;
     Columns::of(callee.len(), call.made, made, total)
-}
-
-/// Adds the positions before a return and before its call.
-fn add_sources(
-    sources: &mut Vec<usize>,
-    reading: &Reading,
-    call: OpenCall,
-) -> Result<(), AllocError>
-    ensures { OnOk result (sources.new.items ≡ sources.old.items ++ reading.now.letters ∷ call.at ∷ []) }
-{
-    sources.push(reading.letters)?;
-    sources.push(call.at)?;
-    Ok(())
 }
 
 /// Its rows, where it writes these columns.
@@ -383,11 +333,8 @@ fn add_back_bounds(
 ) -> Result<(), AllocError>
     ensures { OnOk result (AddsRoles sections.old.items sections.new.items (spares (bounds_in callee.now) ++ before_bounds (suc call.at) caller.now ++ spares (length (bounds 0 (types_at caller.now written.now))))) }
 {
-    let exit = bounds_in(callee)?;
-    let before = before_bounds(caller, sum(call.at, 1)?)?;
-    let after = bounds_at(caller, written)?;
-    sections.push(Section::Spare(exit))?;
-    sections.push(before)?;
-    sections.push(Section::Spare(after))?;
+    sections.push(Section::Spare(bounds_in(callee)))?;
+    sections.push(before_bounds(caller, call.at))?;
+    sections.push(Section::Spare(bounds_at(caller, written)))?;
     Ok(())
 }

@@ -56,7 +56,7 @@ pub fn steps(
     let _valid = icfg.acts();
     let letters = path.word().letters();
     let total = path.column_at().len();
-    let mut reading = Reading::start(alloc, icfg.columns(start_proc(icfg)))?;
+    let mut reading = Reading::start(alloc, icfg.columns(start_proc(icfg)));
     let mut steps = Vec::with_capacity(alloc, letters.len())?;
     for i in 0..letters.len() {
         let step = step_of(alloc, icfg, &reading, total, letters[i], returned[i])?;

@@ -40,15 +40,15 @@ impl Reading {
     ghost use Rattle.nested_itp.specs.TripleSteps.Ties.Readings.{IsAt, IsReading, start_reading, PassesInside, PassesCall, PassesBack};
 
     /// Before the first letter, in this frame.
-    pub(crate) fn start(alloc: Global, frame: &[(Column, VarInfo)]) -> Result<Reading, AllocError>
-        ensures { IfOk result (λ s. (g : Graph) (w : List Letter) → start_frame g ≡ frame.now → IsReading g w (start_reading g) s) }
+    pub(crate) fn start(alloc: Global, frame: &[(Column, VarInfo)]) -> Reading
+        ensures { (g : Graph) (w : List Letter) → start_frame g ≡ frame.now → IsReading g w (start_reading g) result }
     {
-        Ok(Reading {
+        Reading {
             letters: 0,
-            rows: bounds_in(frame)?,
+            rows: bounds_in(frame),
             made: frame.len(),
             calls: Vec::new(alloc),
-        })
+        }
     }
 
     /// Goes on by a letter.
@@ -84,8 +84,8 @@ impl Reading {
     ) -> Result<(), AllocError>
         ensures { OnOk result (PassesInside self.old frame.now written.now helpers rows self.new) }
     {
-        let rows = sum(self.rows, sum(rows, bounds_at(frame, written)?)?)?;
-        let made = sum(self.made, sum(written.len(), helpers as usize)?)?;
+        let rows = sum(self.rows, sum(rows, bounds_at(frame, written))?)?;
+        let made = sum(self.made, written.len() + helpers as usize)?;
         self.letters = sum(self.letters, 1)?;
         self.rows = rows;
         self.made = made;
@@ -102,7 +102,7 @@ impl Reading {
         ensures { OnOk result (PassesCall self.old callee.now helpers rows self.new) }
     {
         let rows = sum(self.rows, call_rows(callee, rows)?)?;
-        let made = sum(self.made, call_columns(callee, helpers)?)?;
+        let made = sum(self.made, call_columns(callee, helpers))?;
         let letters = sum(self.letters, 1)?;
         self.calls.push(OpenCall {
             at: self.letters,
@@ -129,16 +129,15 @@ impl Reading {
 fn call_rows(callee: &[(Column, VarInfo)], rows: usize) -> Result<usize, AllocError>
     ensures { IfOk result (λ n. n ≡ rows + (length (filter is_variable callee.now) + (bounds_in (local_columns callee.now) + bounds_in (old_part callee.now)))) }
 {
-    let bounds = sum(local_bounds(callee)?, old_bounds(callee)?)?;
-    sum(rows, sum(variable_count(callee), bounds)?)
+    let bounds = local_bounds(callee) + old_bounds(callee);
+    let counted = variable_count(callee) + bounds;
+    sum(rows, counted)
 }
 
 /// How many columns a call with so many helpers makes.
-fn call_columns(callee: &[(Column, VarInfo)], helpers: u32) -> Result<usize, AllocError>
-    ensures { IfOk result (λ n. n ≡ length (local_columns callee.now) + (helpers + length (old_part callee.now))) }
+fn call_columns(callee: &[(Column, VarInfo)], helpers: u32) -> usize
+    ensures { result ≡ length (local_columns callee.now) + (helpers + length (old_part callee.now)) }
 {
-    sum(
-        local_count(callee),
-        sum(helpers as usize, old_count(callee))?,
-    )
+    let helped = helpers as usize + old_count(callee);
+    local_count(callee) + helped
 }

@@ -1,10 +1,10 @@
-use Rattle.std.proofs.Common.{◌≡◌, ℕ, ◌+◌, length}
-use Rattle.letter_acts.specs.FrameRows.Rows.{bounds, types_at}
-use Rattle.nested_itp.proofs.NestedPredicates.BaseLaws.{if_ok}
-use Rattle.nested_itp.proofs.TripleSteps.BoundLaws.{bounds_twice_at}
+use Rattle.std.proofs.Common.{refl, arith}
+use Rattle.nested_itp.specs.NestedPredicates.Walking.{is_bool_at}
+use Rattle.nested_itp.proofs.TripleSteps.BoundLaws.{few_chosen, bounds_twice_at}
 use Rattle.nested_itp.proofs.triple_steps.bounds.bounds_at.Goals as goal
 
+pub overflow_add-result : goal.overflow_add-result
+overflow_add-result c = let e = c.bool_count_at-booleans.ensures in let l = few_chosen (is_bool_at c.args.frame.now) c.args.columns.now in omega (arith, e, l)
+
 pub returns : goal.returns
-returns c =
-    let b : ℕ = c.bool_count_at-booleans.result in
-    if_ok (λ (n : ℕ). n ≡ b + b) (λ (n : ℕ). n ≡ length (bounds 0 (types_at c.args.frame.now c.args.columns.now))) (λ n e. bounds_twice_at c.args.frame.now c.args.columns.now b n c.bool_count_at-booleans.ensures e) c.sum.result c.sum.ensures
+returns c = bounds_twice_at c.args.frame.now c.args.columns.now c.bool_count_at-booleans.result _ c.bool_count_at-booleans.ensures refl

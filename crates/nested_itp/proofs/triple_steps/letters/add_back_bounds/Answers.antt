@@ -1,4 +1,4 @@
-use Rattle.std.proofs.Common.{◌≡◌, ◌∙◌, ◌++◌, ℕ, suc, List, length, refl, ap, arith}
+use Rattle.std.proofs.Common.{◌++◌, suc, List, length, refl, ap}
 use Rattle.letter_acts.specs.FrameRows.Rows.{bounds, types_at}
 use Rattle.nested_itp.specs.NestedRefutations.Refutations.{Role}
 use Rattle.nested_itp.specs.NestedRefutations.Numbers.{spares, bounds_in, before_bounds}
@@ -15,13 +15,11 @@ returns c =
     let one : List Section = c.push.new.self.items in
     let two : List Section = c.push-2.new.self.items in
     let new : List Section = c.push-3.new.self.items in
-    let number : c.in_ok-sum.field-0 ≡ suc c.args.call.at = (let e = c.in_ok-sum.ensures in omega (arith, e)) in
     let exit : List Role = spares (bounds_in c.args.callee.now) in
     let before : List Role = before_bounds (suc c.args.call.at) caller in
     let after : List Role = spares (length (bounds 0 (types_at caller c.args.written.now))) in
     adds_both old two new (exit ++ before) after
     (adds_both old one two exit before
-    (adds_section old one (Spare c.in_ok-exit.exit) exit c.in_ok-push.ensures.items refl (λ g w t v. ap spares c.in_ok-exit.ensures))
-    (adds_section one two c.in_ok-before.before before c.in_ok-push-2.ensures.items c.in_ok-before.ensures.plain
-    (λ g w t v. c.in_ok-before.ensures.roles g w t v ∙ ap (λ (n : ℕ). before_bounds n caller) number)))
-    (adds_section two new (Spare c.in_ok-after.after) after c.in_ok-push-3.ensures.items refl (λ g w t v. ap spares c.in_ok-after.ensures))
+    (adds_section old one (Spare c.bounds_in.result) exit c.in_ok-push.ensures.items refl (λ g w t v. ap spares c.bounds_in.ensures))
+    (adds_section one two c.before_bounds.result before c.in_ok-push-2.ensures.items c.before_bounds.ensures.plain c.before_bounds.ensures.roles))
+    (adds_section two new (Spare c.bounds_at.result) after c.in_ok-push-3.ensures.items refl (λ g w t v. ap spares c.bounds_at.ensures))

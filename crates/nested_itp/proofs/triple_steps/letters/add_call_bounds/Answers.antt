@@ -1,4 +1,4 @@
-use Rattle.std.proofs.Common.{◌≡◌, ◌∙◌, ◌+◌, ℕ, suc, List, length, ap, arith}
+use Rattle.std.proofs.Common.{◌≡◌, ◌∙◌, ◌+◌, ℕ, suc, List, length, ap}
 use Rattle.std.specs.Prelude.{if◌then◌else◌}
 use Rattle.path_rows.specs.Versions.{local_columns, old_part}
 use Rattle.nested_itp.specs.NestedRefutations.Refutations.{Role}
@@ -23,12 +23,10 @@ returns c =
     let local : c.in_ok-local.local ≡ local_row =
     c.in_ok-local.ensures ∙ ap (λ (n : ℕ). n + c.old_count.result) c.in_ok-sum.ensures ∙ ap (λ (n : ℕ). r.rows + c.args.rows + n) c.old_count.ensures in
     let older : c.in_ok-old.old ≡ old_row =
-    c.in_ok-old.ensures ∙ ap (λ (n : ℕ). n + c.in_ok-local_bounds.field-0) local ∙ ap (λ (n : ℕ). local_row + n) c.in_ok-local_bounds.ensures in
-    let number : c.in_ok-sum-2.field-0 ≡ suc r.letters = (let e = c.in_ok-sum-2.ensures in omega (arith, e)) in
+    c.in_ok-old.ensures ∙ ap (λ (n : ℕ). n + c.local_bounds.result) local ∙ ap (λ (n : ℕ). local_row + n) c.local_bounds.ensures in
     let before : List Role = if c.args.returns then spares (bounds_in caller) else before_bounds (suc r.letters) caller in
     on_ok (AddsRoles now new (callee_bounds c.in_ok-local.local c.in_ok-old.old callee)) _
     (λ h. adds_both old now new before (callee_bounds local_row old_row callee)
-    (adds_section old now c.in_ok-before.before before c.in_ok-push.ensures.items c.in_ok-before.ensures.plain
-    (λ g w t v. c.in_ok-before.ensures.roles g w t v ∙ ap (λ (n : ℕ). if c.args.returns then spares (bounds_in caller) else before_bounds n caller) number))
+    (adds_section old now c.caller_bounds.result before c.in_ok-push.ensures.items c.caller_bounds.ensures.plain c.caller_bounds.ensures.roles)
     (callee_at callee c.in_ok-local.local local_row c.in_ok-old.old old_row now new local older h))
     c.add_callee_bounds.result c.add_callee_bounds.ensures

@@ -18,8 +18,8 @@ use Rattle.nested_itp.proofs.triple_steps.making.steps.Goals as goal
 
 pub loop-i-init : goal.loop-i-init
 loop-i-init c =
-    steps_start c.args.icfg.now c.args.path.now.word (length c.column_at-total.result.now) c.in_ok-reading.reading c.in_ok-steps.steps.items
-    (c.in_ok-reading.ensures c.args.icfg.now c.args.path.now.word (sym (c.columns.ensures.value ∙ ap (frame_of (alphabet_of c.args.icfg.now)) c.start_proc.ensures)))
+    steps_start c.args.icfg.now c.args.path.now.word (length c.column_at-total.result.now) c.start-reading.result c.in_ok-steps.steps.items
+    (c.start-reading.ensures c.args.icfg.now c.args.path.now.word (sym (c.columns.ensures.value ∙ ap (frame_of (alphabet_of c.args.icfg.now)) c.start_proc.ensures)))
     (subst (λ (w : List Letter). are_matched 0 w ≡ true) c.word.ensures c.letters-letters.ensures.matched) c.in_ok-steps.ensures.items
 
 pub bounds-returned-i : goal.bounds-returned-i
