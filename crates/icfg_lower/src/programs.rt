@@ -47,9 +47,9 @@ fn walked(alloc: Global, layout: &Layout<'_>) -> Result<Lowered, AllocError>
 }
 
 /// The automaton of a program: where some run fails an assertion, some feasible word leads to the place where it fails; and where such a
-/// word has no coarse letter, some run fails it. It is refused exactly where an item needs a list of more than 4,096 members or, else, a
-/// number that does not fit, and then the first such item in the text is told. An item is an axiom, a statement, an invariant, or a
-/// requires or ensures of a procedure with a body.
+/// word has no coarse letter, some run fails it. It is refused, want of memory aside, exactly where an item needs a list of more than 4,096
+/// members or, else, a number that does not fit, and then the first such item in the text is told. An item is an axiom, a statement, an
+/// invariant, a plain requires of the entry procedure, or a free requires or an ensures of a procedure with a body.
 pub fn lower(alloc: Global, program: &Typed) -> Result<Icfg, LowerFault>
     ensures value { IfOk result (λ i. i ≡ lowered (typed_program program.now)) }
     ensures fits { IsOk result → items.first_fault (typed_program program.now) ≡ None }
