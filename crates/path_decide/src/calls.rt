@@ -43,27 +43,40 @@ fn spans_of(alloc: Global, letters: &[Letter]) -> Result<Vec<Span>, AllocError> 
 
 /// By letter, from 1, the number of returned calls in which it is; 0 for the start.
 fn depths_of(alloc: Global, count: usize, spans: &[Span]) -> Result<Vec<u32>, AllocError> {
-    let mut opened = vec![in alloc; 0u32; count]?;
-    let mut closed = vec![in alloc; 0u32; count]?;
+    let mut kinds = vec![in alloc; Kind::Inside; count]?;
     for span in spans {
-        count_one(&mut opened, span.call);
-        count_one(&mut closed, span.back);
+        set_kind(&mut kinds, span.call, Kind::Call);
+        set_kind(&mut kinds, span.back, Kind::Back);
     }
-    let mut depths = Vec::with_capacity(alloc, count)?;
-    depths.push(0u32)?;
+    depths_along(alloc, &kinds)
+}
+
+/// Puts a kind at a place.
+fn set_kind(kinds: &mut [Kind], place: usize, kind: Kind) {
+    if let Some(at) = kinds.get_mut(place) {
+        *at = kind;
+    }
+}
+
+/// The same by the kinds of letters, of which calls that do not return are inside ones.
+fn depths_along(alloc: Global, kinds: &[Kind]) -> Result<Vec<u32>, AllocError> {
+    let mut depths = Vec::with_capacity(alloc, kinds.len())?;
     let mut depth = 0u32;
-    for (opens, closes) in opened.iter().zip(&closed) {
-        depth = depth.saturating_add(*opens).saturating_sub(*closes);
+    depths.push(depth)?;
+    for kind in kinds {
+        depth = match kind {
+            Kind::Inside => depth,
+            Kind::Call => depth.saturating_add(1),
+            Kind::Back => depth.saturating_sub(1),
+        };
         depths.push(depth)?;
     }
     Ok(depths)
 }
 
-/// Counts one more at a place.
-fn count_one(counts: &mut [u32], place: usize) {
-    if let Some(count) = counts.get_mut(place) {
-        *count = count.saturating_add(1);
-    }
+/// How many rows come from letters up to one.
+fn rows_up_to(path: &PathSystem, letter: u32) -> usize {
+    path.row_at().partition_point(|at| *at <= letter)
 }
 
 /// Adds a column, and how many rows come from letters up to that of the column.
@@ -75,8 +88,7 @@ fn add_candidate(
     let Some(letter) = path.column_at().get(column as usize) else {
         return Ok(());
     };
-    let before = path.row_at().partition_point(|at| *at <= *letter);
-    if let Ok(before) = u32::try_from(before) {
+    if let Ok(before) = u32::try_from(rows_up_to(path, *letter)) {
         candidates.push((column, before))?;
     }
     Ok(())
@@ -88,10 +100,10 @@ fn add_entry(
     path: &PathSystem,
     call: usize,
 ) -> Result<(), AllocError> {
-    let Some(letter) = u32::try_from(call).ok().and_then(|at| at.checked_add(1)) else {
+    let Ok(letter) = u32::try_from(call.saturating_add(1)) else {
         return Ok(());
     };
-    let from = path.row_at().partition_point(|at| *at < letter);
+    let from = rows_up_to(path, letter.saturating_sub(1));
     for (row, at) in path.system().rows.iter().zip(path.row_at()).skip(from) {
         if *at != letter {
             break;
@@ -130,27 +142,42 @@ fn add_exit(
     Ok(())
 }
 
+/// Adds these returned calls of a word.
+fn add_calls(
+    calls: &mut ReturnedCalls,
+    alloc: Global,
+    path: &PathSystem,
+    spans: &[Span],
+    with_exits: bool,
+) -> Result<(), AllocError> {
+    calls.depths.reserve(path.row_at().len())?;
+    for span in spans {
+        add_entry(&mut calls.candidates, path, span.call)?;
+        if with_exits {
+            add_exit(&mut calls.candidates, path, span.back)?;
+        }
+    }
+    calls.candidates.sort()?;
+    calls.candidates.dedup();
+    let by_letter = depths_of(alloc, path.word().letters().len(), spans)?;
+    for at in path.row_at() {
+        let depth = by_letter.get(*at as usize).copied().unwrap_or(0);
+        calls.depths.push(depth)?;
+    }
+    Ok(())
+}
+
 /// The returned calls of a word, with the columns at their entries, and those at their exits where it is said.
 pub(crate) fn returned_calls(
     alloc: Global,
     path: &PathSystem,
     with_exits: bool,
 ) -> Result<ReturnedCalls, AllocError> {
-    let letters = path.word().letters();
-    let spans = spans_of(alloc, letters)?;
-    let by_letter = depths_of(alloc, letters.len(), &spans)?;
-    let mut depths = Vec::with_capacity(alloc, path.row_at().len())?;
-    for at in path.row_at() {
-        depths.push(by_letter.get(*at as usize).copied().unwrap_or(0))?;
-    }
-    let mut candidates = Vec::new(alloc);
-    for span in &spans {
-        add_entry(&mut candidates, path, span.call)?;
-        if with_exits {
-            add_exit(&mut candidates, path, span.back)?;
-        }
-    }
-    candidates.sort()?;
-    candidates.dedup();
-    Ok(ReturnedCalls { depths, candidates })
+    let spans = spans_of(alloc, path.word().letters())?;
+    let mut calls = ReturnedCalls {
+        depths: Vec::new(alloc),
+        candidates: Vec::new(alloc),
+    };
+    add_calls(&mut calls, alloc, path, &spans, with_exits)?;
+    Ok(calls)
 }

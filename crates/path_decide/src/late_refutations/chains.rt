@@ -4,6 +4,7 @@ use crate::late_refutations::searching::Lemma;
 use crate::late_refutations::types::Parts;
 use farkas_check::Node;
 use std::alloc::{AllocError, Global};
+use std::mem::replace;
 
 /// The numbers of rows where only lemmas that are used are kept.
 #[derive(Drop)]
@@ -108,18 +109,24 @@ pub(crate) fn chained(
     nodes: &[Node],
 ) -> Result<Option<Vec<Node>>, AllocError> {
     let used = used_by(alloc, given, lemmas, nodes)?;
-    let numbers = numbers_of(alloc, given, &used)?;
+    chained_by(alloc, given, lemmas, &used, nodes)
+}
+
+/// The same where it is known which lemmas are used.
+fn chained_by(
+    alloc: Global,
+    given: u32,
+    lemmas: &[Lemma],
+    used: &[bool],
+    nodes: &[Node],
+) -> Result<Option<Vec<Node>>, AllocError> {
     let mut chain = Chain {
         alloc,
-        numbers,
+        numbers: numbers_of(alloc, given, used)?,
         nodes: Vec::new(alloc),
         after: Vec::new(alloc),
     };
-    if chain.add_all(lemmas, &used, nodes)? {
-        Ok(Some(chain.nodes))
-    } else {
-        Ok(None)
-    }
+    chain.add_all(lemmas, used, nodes)
 }
 
 /// A chain that is being made.
@@ -133,23 +140,23 @@ struct Chain {
 }
 
 impl Chain {
-    /// Adds the lemmas that are used, and the nodes below them. False where a number would not fit.
+    /// Adds the lemmas that are used, and the nodes below them, and hands over all nodes; `None` where a number would not fit.
     fn add_all(
         &mut self,
         lemmas: &[Lemma],
         used: &[bool],
         nodes: &[Node],
-    ) -> Result<bool, AllocError> {
+    ) -> Result<Option<Vec<Node>>, AllocError> {
         for (lemma, is_used) in lemmas.iter().zip(used) {
             if *is_used && !self.add_lemma(lemma)? {
-                return Ok(false);
+                return Ok(None);
             }
         }
         for node in nodes {
             self.nodes.push(self.numbers.node(self.alloc, node)?)?;
         }
         self.add_after()?;
-        Ok(true)
+        Ok(Some(replace(&mut self.nodes, Vec::new(self.alloc))))
     }
 
     /// Adds a lemma: its cut, and the leaf of the side on which it does not hold. False where a number would not fit.

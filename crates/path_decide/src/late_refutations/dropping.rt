@@ -136,9 +136,9 @@ fn drop_waiting(lines: &mut Lines, waiting: &mut Waiting) -> Result<(), Stop> {
 
 /// Drops the rows that have a column.
 fn drop_users(lines: &mut Lines, column: Col, waiting: &mut Waiting) -> Result<(), Stop> {
-    let mut users = lines.take_users(column);
-    for _user in 0..lines.most_users() {
-        let Some(number) = lines.next_user(&mut users) else {
+    let mut users = lines.users.take(column);
+    for _user in 0..lines.users.len() {
+        let Some(number) = lines.users.next(&mut users) else {
             break;
         };
         drop_user(lines, number, column, waiting)?;

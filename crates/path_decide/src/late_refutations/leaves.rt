@@ -1,9 +1,10 @@
 //! Leaves that use the last rows of an order.
 
 use crate::late_refutations::refuting::refuted;
-use crate::late_refutations::types::Parts;
+use crate::late_refutations::types::{Parts, number_beside};
 use lin_rows::Row;
 use std::alloc::{AllocError, Global};
+use std::mem::replace;
 
 /// The rows that may be used, and the best refutation found so far.
 #[derive(Drop)]
@@ -14,23 +15,22 @@ struct Trials<'a> {
     on: Vec<bool>,
     best: Parts,
     /// How many rows may still be looked at.
-    work: u64,
+    work: &'a mut u64,
 }
 
 /// The place of the first row of an order that the parts use; 0 where they use none.
 fn first_used(order: &[u32], parts: &[(u32, i128)]) -> usize {
-    order
-        .iter()
-        .position(|number| uses(parts, *number))
-        .unwrap_or(0)
+    for (place, number) in order.iter().enumerate() {
+        if uses(parts, *number) {
+            return place;
+        }
+    }
+    0
 }
 
 /// Whether the parts use a row.
 fn uses(parts: &[(u32, i128)], number: u32) -> bool {
-    match parts.get(parts.partition_point(|part| part.0 < number)) {
-        Some(part) => part.0 == number,
-        None => false,
-    }
+    number_beside(parts, number).is_some()
 }
 
 impl<'a> Trials<'a> {
@@ -52,10 +52,10 @@ impl<'a> Trials<'a> {
     /// Whether the rows that are on are refuted. The refutation is the best then. False where no work is left.
     fn improve(&mut self) -> Result<bool, AllocError> {
         let Some(left) = self.work.checked_sub(self.rows.len() as u64) else {
-            self.work = 0;
+            *self.work = 0;
             return Ok(false);
         };
-        self.work = left;
+        *self.work = left;
         match refuted(self.alloc, self.rows, &self.on, self.columns)? {
             Some(parts) => {
                 self.best = parts;
@@ -65,10 +65,12 @@ impl<'a> Trials<'a> {
         }
     }
 
-    /// Makes the trials.
-    fn try_all(&mut self, order: &[u32]) -> Result<(), AllocError> {
+    /// Makes the trials, and answers the best refutation.
+    fn try_all(&mut self, order: &[u32]) -> Result<Parts, AllocError> {
+        self.on.resize(self.rows.len(), false)?;
         self.begin_late(order)?;
-        self.drop_rows(order)
+        self.drop_rows(order)?;
+        Ok(replace(&mut self.best, Vec::new(self.alloc)))
     }
 
     /// Turns on the rows of the order from the last place on from which they are refuted alone, by halving.
@@ -106,24 +108,23 @@ impl<'a> Trials<'a> {
 }
 
 /// Parts that are to refute the rows, as given ones do, and need none of the rows that they use: the first rows of the order are
-/// dropped first. What is left of the work is answered, too.
+/// dropped first. So many rows may be looked at, of which what is left stays.
 pub(crate) fn late_leaf(
     alloc: Global,
     rows: &[Row],
     columns: u32,
     order: &[u32],
     given: &[(u32, i128)],
-    work: u64,
-) -> Result<(Parts, u64), AllocError> {
-    let on = vec![in alloc; false; rows.len()]?;
+    work: &mut u64,
+) -> Result<Parts, AllocError> {
+    let best = Vec::from_slice(alloc, given)?;
     let mut trials = Trials {
         alloc,
         rows,
         columns,
-        on,
-        best: Vec::from_slice(alloc, given)?,
+        on: Vec::new(alloc),
+        best,
         work,
     };
-    trials.try_all(order)?;
-    Ok((trials.best, trials.work))
+    trials.try_all(order)
 }

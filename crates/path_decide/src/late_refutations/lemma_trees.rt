@@ -114,9 +114,7 @@ fn searched(
     rows: Vec<Row>,
 ) -> Result<(Vec<Row>, Vec<Lemma>), AllocError> {
     let mut search = Search::new(alloc, columns, order, rows, SEARCH_WORK)?;
-    search.try_columns(candidates)?;
-    let Search { rows, lemmas, .. } = search;
-    Ok((rows, lemmas))
+    search.try_columns(candidates)
 }
 
 /// The nodes of the tree with these lemmas, which stand at the end of the rows.

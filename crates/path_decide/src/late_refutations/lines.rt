@@ -1,7 +1,7 @@
 //! The rows of a trial: equalities are taken out by substitution, and rows that can always be met are dropped.
 
-use crate::late_refutations::types::Stop;
-use crate::late_refutations::users::{SomeUsers, Users};
+use crate::late_refutations::types::{Stop, number_beside};
+use crate::late_refutations::users::Users;
 use lin_rows::{Col, Row, RowKind, add_scaled};
 use std::alloc::Global;
 use std::mem::replace;
@@ -37,9 +37,9 @@ pub(crate) struct Lines<'a> {
     equalities: Vec<usize>,
     /// The rows that were made.
     made: Vec<Row>,
-    users: Users,
+    pub(crate) users: Users,
     /// The steps, in order.
-    steps: Vec<Step>,
+    pub(crate) steps: Vec<Step>,
 }
 
 /// The row with a number, which is such a line.
@@ -53,11 +53,7 @@ fn row_of<'b>(given: &'b [Row], made: &'b [Row], number: usize, line: Line) -> O
 
 /// The coefficient of a column.
 fn coefficient_of(row: &Row, column: Col) -> i128 {
-    let terms = row.terms();
-    match terms.get(terms.partition_point(|term| term.0 < column)) {
-        Some(term) if term.0 == column => term.1,
-        _ => 0,
-    }
+    number_beside(row.terms(), column).unwrap_or(0)
 }
 
 /// The last column of an equality with the coefficient 1 or -1, with that coefficient.
@@ -65,11 +61,12 @@ fn solvable(row: &Row) -> Option<(Col, i128)> {
     if row.kind() == RowKind::Le {
         return None;
     }
-    row.terms()
-        .iter()
-        .copied()
-        .rev()
-        .find(|term| term.1 == 1 || term.1 == -1)
+    for &(column, coefficient) in row.terms().iter().rev() {
+        if coefficient == 1 || coefficient == -1 {
+            return Some((column, coefficient));
+        }
+    }
+    None
 }
 
 /// Whether no point meets the row.
@@ -78,28 +75,23 @@ fn is_false(row: &Row) -> bool {
 }
 
 impl<'a> Lines<'a> {
-    /// The rows that are on, over the columns below a number.
-    pub(crate) fn new(
-        alloc: Global,
-        rows: &'a [Row],
-        on: &[bool],
-        columns: u32,
-    ) -> Result<Self, Stop> {
-        let mut lines = Lines {
+    /// None of the rows, over the columns below a number.
+    pub(crate) fn new(alloc: Global, rows: &'a [Row], columns: u32) -> Result<Self, Stop> {
+        let users = Users::new(alloc, columns, rows.len())?;
+        Ok(Lines {
             alloc,
             rows,
             lines: Vec::new(alloc),
             equalities: Vec::new(alloc),
             made: Vec::new(alloc),
-            users: Users::new(alloc, columns, rows.len())?,
+            users,
             steps: Vec::new(alloc),
-        };
-        lines.add_all(rows, on)?;
-        Ok(lines)
+        })
     }
 
     /// Adds the rows that are on.
-    fn add_all(&mut self, rows: &[Row], on: &[bool]) -> Result<(), Stop> {
+    pub(crate) fn add_all(&mut self, on: &[bool]) -> Result<(), Stop> {
+        let rows = self.rows;
         self.lines.reserve(rows.len())?;
         for (row, is_on) in rows.iter().zip(on) {
             self.add(row, *is_on)?;
@@ -183,26 +175,6 @@ impl<'a> Lines<'a> {
             Some(line) => replace(line, Line::Gone),
             None => Line::Gone,
         }
-    }
-
-    /// The steps so far, in order.
-    pub(crate) fn steps(&self) -> &[Step] {
-        self.steps.as_slice()
-    }
-
-    /// The rows that may have a column, which are forgotten.
-    pub(crate) fn take_users(&mut self, column: Col) -> SomeUsers {
-        self.users.take(column)
-    }
-
-    /// The number of the first of these rows, which is no longer among them then.
-    pub(crate) fn next_user(&self, users: &mut SomeUsers) -> Option<u32> {
-        self.users.next(users)
-    }
-
-    /// How many rows there are at most that may have a column.
-    pub(crate) fn most_users(&self) -> usize {
-        self.users.len()
     }
 
     /// Takes the row with a number out, where it has a column.

@@ -42,29 +42,30 @@ fn set_multipliers(
     columns: u32,
     multipliers: &mut [i128],
 ) -> Result<(), Stop> {
-    let mut lines = Lines::new(alloc, rows, on, columns)?;
-    refute(alloc, &mut lines, columns, multipliers)?;
-    carry_back(multipliers, lines.steps())
+    let mut lines = Lines::new(alloc, rows, columns)?;
+    refute(alloc, &mut lines, on, columns, multipliers)
 }
 
-/// Sets the multipliers of the rows as they are after the steps that refute them.
+/// Sets the multipliers that refute the rows that are on.
 fn refute(
     alloc: Global,
     lines: &mut Lines,
+    on: &[bool],
     columns: u32,
     multipliers: &mut [i128],
 ) -> Result<(), Stop> {
+    lines.add_all(on)?;
     match lines.substitute()? {
         Some(number) => {
             let sign = sign_of(lines, number);
             set_multiplier(multipliers, number, sign);
-            Ok(())
         }
         None => {
             drop_met(alloc, lines, columns)?;
-            solve(alloc, lines, multipliers)
+            solve(alloc, lines, multipliers)?;
         }
     }
+    carry_back(multipliers, &lines.steps)
 }
 
 /// The multiplier of a row that no point meets.

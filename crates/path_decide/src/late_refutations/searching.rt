@@ -6,6 +6,7 @@ use crate::late_refutations::refuting::refuted;
 use crate::late_refutations::types::Parts;
 use lin_rows::{Col, Row, RowKind};
 use std::alloc::{AllocError, Global};
+use std::mem::replace;
 
 /// How many lemmas there are at most.
 const MOST_LEMMAS: usize = 40;
@@ -27,9 +28,9 @@ pub(crate) struct Search<'a> {
     /// Their numbers, in the order in which they are dropped.
     order: &'a [u32],
     /// The rows of the system, and then the lemmas.
-    pub(crate) rows: Vec<Row>,
+    rows: Vec<Row>,
     numbers: Vec<i128>,
-    pub(crate) lemmas: Vec<Lemma>,
+    lemmas: Vec<Lemma>,
     /// How many rows may still be looked at.
     work: u64,
 }
@@ -56,12 +57,17 @@ impl<'a> Search<'a> {
         })
     }
 
-    /// Tries the candidates.
-    pub(crate) fn try_columns(&mut self, candidates: &[(Col, u32)]) -> Result<(), AllocError> {
+    /// Tries the candidates, and hands over the rows with the lemmas that were found, and these.
+    pub(crate) fn try_columns(
+        &mut self,
+        candidates: &[(Col, u32)],
+    ) -> Result<(Vec<Row>, Vec<Lemma>), AllocError> {
         for (column, before) in candidates {
             self.try_column(*column, *before as usize)?;
         }
-        Ok(())
+        let rows = replace(&mut self.rows, Vec::new(self.alloc));
+        let lemmas = replace(&mut self.lemmas, Vec::new(self.alloc));
+        Ok((rows, lemmas))
     }
 
     /// Tries both bounds of a column, from the first rows, so many.
@@ -213,16 +219,14 @@ impl<'a> Search<'a> {
     /// The parts without the rows that they do not need.
     fn late_parts(&mut self, parts: &[(u32, i128)], before: usize) -> Result<Parts, AllocError> {
         let order = self.order_before(before)?;
-        let (late, work) = late_leaf(
+        late_leaf(
             self.alloc,
             &self.rows,
             self.columns,
             &order,
             parts,
-            self.work,
-        )?;
-        self.work = work;
-        Ok(late)
+            &mut self.work,
+        )
     }
 
     /// Takes the last row away.

@@ -7,6 +7,7 @@ use crate::late_refutations::types::Parts;
 use farkas_check::{Node, Refutation};
 use lin_rows::{Col, Row};
 use std::alloc::{AllocError, Global};
+use std::mem::replace;
 
 /// A side of a cut.
 #[derive(Clone, Copy)]
@@ -51,14 +52,14 @@ struct Shrinking {
 }
 
 impl Shrinking {
-    /// Takes the nodes of a tree. False where it has cases, or a number would not fit.
-    fn take_all(&mut self, nodes: &[Node]) -> Result<bool, AllocError> {
+    /// Takes the nodes of a tree, and hands over those that were made; `None` where it has cases, or a number would not fit.
+    fn take_all(&mut self, nodes: &[Node]) -> Result<Option<Vec<Node>>, AllocError> {
         for node in nodes {
             if !self.take(node)? {
-                return Ok(false);
+                return Ok(None);
             }
         }
-        Ok(true)
+        Ok(Some(replace(&mut self.nodes, Vec::new(self.alloc))))
     }
 
     /// Takes a node. False where it is of cases, or a number would not fit.
@@ -94,8 +95,10 @@ impl Shrinking {
 
     /// Takes a leaf, and goes on to the side after it. False where a number would not fit.
     fn shrink(&mut self, parts: &[(u32, i128)]) -> Result<bool, AllocError> {
-        let parts = moved_parts(self.alloc, parts, self.given, self.lemmas)?;
-        let late = self.late_parts(&parts)?;
+        let late = {
+            let moved = moved_parts(self.alloc, parts, self.given, self.lemmas)?;
+            self.late_parts(&moved)?
+        };
         self.nodes.push(Node::Leaf(late))?;
         self.go_on()
     }
@@ -103,16 +106,14 @@ impl Shrinking {
     /// The parts that are to refute the rows at hand as given ones do, without the rows that they do not need.
     fn late_parts(&mut self, parts: &[(u32, i128)]) -> Result<Parts, AllocError> {
         let order = self.order.numbers()?;
-        let (late, work) = late_leaf(
+        late_leaf(
             self.alloc,
             &self.rows,
             self.columns,
             &order,
             parts,
-            self.work,
-        )?;
-        self.work = work;
-        Ok(late)
+            &mut self.work,
+        )
     }
 
     /// Goes on to the side after a leaf. False where a number would not fit.
@@ -176,9 +177,5 @@ pub(crate) fn shrunk(
         nodes: Vec::new(alloc),
         work,
     };
-    if shrinking.take_all(refutation.nodes())? {
-        Ok(Some(shrinking.nodes))
-    } else {
-        Ok(None)
-    }
+    shrinking.take_all(refutation.nodes())
 }

@@ -4,6 +4,14 @@ use std::alloc::{AllocError, AllocFailed};
 /// Row numbers, ascending, with multipliers.
 pub(crate) type Parts = Vec<(u32, i128)>;
 
+/// What stands beside a number in pairs that ascend by it.
+pub(crate) fn number_beside(pairs: &[(u32, i128)], number: u32) -> Option<i128> {
+    match pairs.get(pairs.partition_point(|pair| pair.0 < number)) {
+        Some(pair) if pair.0 == number => Some(pair.1),
+        _ => None,
+    }
+}
+
 /// Why nothing is proposed.
 #[derive(Drop)]
 pub(crate) enum Stop {

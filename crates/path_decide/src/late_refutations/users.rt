@@ -44,12 +44,9 @@ pub(crate) struct SomeUsers {
 impl Users {
     /// No row has any of so many columns.
     pub(crate) fn new(alloc: Global, columns: u32, rows: usize) -> Result<Self, Stop> {
-        let mut users = Users {
-            ends: vec![in alloc; NO_ENDS; columns as usize]?,
-            entries: Vec::new(alloc),
-        };
-        users.entries.reserve(rows.saturating_mul(2))?;
-        Ok(users)
+        let ends = vec![in alloc; NO_ENDS; columns as usize]?;
+        let entries = Vec::with_capacity(alloc, rows.saturating_mul(2))?;
+        Ok(Users { ends, entries })
     }
 
     /// Says that a row may have the columns of another.
