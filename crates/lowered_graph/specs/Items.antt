@@ -176,8 +176,7 @@ abbrev pub items_of : TypedProgram → List Place → List ProgramItem
 items_of t [] = []
 items_of t (p ∷ ps) = items_at t p ++ items_of t ps
 
--- the axioms, the statements and invariants, the plain requires of the entry procedure, and the free requires and the ensures of procedures
--- with a body; other plain requires count with the calls
+-- the axioms, statements and invariants, the plain requires of the entry, and free requires and ensures; other requires count with the calls
 abbrev pub program_items : TypedProgram → List ProgramItem
 program_items t = items_of t (program_places t)
 
