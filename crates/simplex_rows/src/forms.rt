@@ -6,7 +6,7 @@ use lin_rows::{Col, Row};
 use std::alloc::Global;
 
 /// A variable of the tableau. Columns come before rows, and both in the order of their numbers.
-#[derive(Clone, Copy, PartialEq, Eq)]
+#[derive(Clone, Copy)]
 pub enum Variable {
     /// The value of a column.
     Column(Col),

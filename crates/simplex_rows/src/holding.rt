@@ -2,7 +2,7 @@
 
 use crate::forms::{Form, Term, Variable, coefficient_of};
 use crate::numbers::{less, multiplied, product, ratio, whole};
-use crate::tableau::{Line, Solved, Tableau, Violated};
+use crate::tableau::{Line, Solved, Tableau, Violated, add_line};
 use crate::types::{Parts, Stop};
 use frac::{Frac, cmp, num};
 use lin_rows::{Col, RowKind};
@@ -42,21 +42,22 @@ impl<'a> Tableau<'a> {
 
     /// Takes up the row that fixes a column.
     pub fn aim(&mut self, column: Col) -> Result<(), Stop> {
-        let mut line = self.fixed_line(column)?;
-        self.take_variables_out(&mut line)?;
-        self.lines.push(line)?;
-        Ok(())
+        let line = self.fixed_line(column)?;
+        add_line(&mut self.lines, line)
     }
 
-    /// The line of the row that fixes a column, over that column alone, with the value 0.
+    /// The line of the row that fixes a column, over the variables of the forms, with the value at hand.
     fn fixed_line(&self, column: Col) -> Result<Line, Stop> {
         let (row, value) = (self.fixing(column)?, whole(0)?);
-        Ok(Line {
+        let form = Form::from_slice(self.alloc, &[(Variable::Column(column), 1)])?;
+        let mut line = Line {
             row,
-            form: Form::from_slice(self.alloc, &[(Variable::Column(column), 1)])?,
+            form,
             denominator: 1,
             value,
-        })
+        };
+        self.take_variables_out(&mut line)?;
+        Ok(line)
     }
 
     /// Takes out of a line what is no variable of the forms, and gives it the value at hand.
@@ -99,7 +100,12 @@ impl<'a> Tableau<'a> {
     /// The place of the line of the row that fixes a column.
     fn place_of(&self, column: Col) -> Result<Option<usize>, Stop> {
         let row = self.fixing(column)?;
-        Ok(self.lines.iter().position(|line| line.row == row))
+        for (place, line) in self.lines.iter().enumerate() {
+            if line.row == row {
+                return Ok(Some(place));
+            }
+        }
+        Ok(None)
     }
 
     /// The value at hand of the column whose row was taken up last.
@@ -131,8 +137,8 @@ impl<'a> Tableau<'a> {
     /// The multipliers that refute that the column goes farther, the last of them positive.
     fn end_parts(&self, violated: Violated) -> Result<Parts, Stop> {
         let mut parts = self.refutation(violated)?;
-        if let Some((number, times)) = parts.pop() {
-            parts.push((number, times.saturating_abs()))?;
+        if let Some(last) = parts.as_mut_slice().last_mut() {
+            last.1 = last.1.saturating_abs();
         }
         Ok(parts)
     }

@@ -7,6 +7,7 @@ use frac::{Frac, den, floor, is_whole, num};
 use lin_rows::{Col, Row, RowKind};
 use math_facts::checked_product;
 use std::alloc::{AllocError, Global};
+use std::mem::replace;
 
 /// A proposal for the picked point of rows over the columns below `columns`: multipliers that are to refute the rows as they are
 /// given, or a point. Column by column, its value is to be the whole number nearest 0 of those with which a point of the rows
@@ -28,10 +29,7 @@ pub fn try_pick(
 
 /// The proposal.
 fn picked(alloc: Global, rows: &[Row], columns: u32, pivots: u32) -> Result<Picked, Stop> {
-    let mut tableau = Tableau::new(alloc, rows)?;
-    if let Some(parts) = tableau.solve(pivots)? {
-        return Ok(Picked::Refuted(parts));
-    }
+    let tableau = Tableau::new(alloc, rows)?;
     let mut picker = Picker {
         alloc,
         rows,
@@ -43,11 +41,9 @@ fn picked(alloc: Global, rows: &[Row], columns: u32, pivots: u32) -> Result<Pick
         waiting: Vec::new(alloc),
         shown: Vec::new(alloc),
     };
-    picker.pick_columns()?;
-    Ok(Picked::Point {
-        values: picker.point,
-        shown: picker.shown,
-    })
+    let found = picker.pick_all();
+    drop(picker);
+    found
 }
 
 /// The last column of each row that has terms, with the number of the row, ascending.
@@ -78,6 +74,18 @@ struct Picker<'a> {
 }
 
 impl<'a> Picker<'a> {
+    /// Refutes the rows, or picks a point, which is handed over with what shows it.
+    fn pick_all(&mut self) -> Result<Picked, Stop> {
+        if let Some(parts) = self.tableau.solve(self.pivots)? {
+            return Ok(Picked::Refuted(parts));
+        }
+        self.pick_columns()?;
+        Ok(Picked::Point {
+            values: replace(&mut self.point, Vec::new(self.alloc)),
+            shown: replace(&mut self.shown, Vec::new(self.alloc)),
+        })
+    }
+
     /// Picks the values of the columns, up to the first that has no whole number.
     fn pick_columns(&mut self) -> Result<(), Stop> {
         self.point = self.tableau.point(self.columns)?;
@@ -117,7 +125,7 @@ impl<'a> Picker<'a> {
     /// Shows that a whole value is nearest 0, by one row; 0 by none. False where no row shows it.
     fn show_at_once(&mut self, column: Col, k: i128) -> Result<bool, Stop> {
         if k == 0 {
-            self.shown.push(Vec::new(self.alloc))?;
+            self.show(Vec::new(self.alloc))?;
             return Ok(true);
         }
         if k > 0 {
@@ -142,11 +150,17 @@ impl<'a> Picker<'a> {
     fn show_side(&mut self, column: Col, way: Way, k: i128) -> Result<bool, Stop> {
         match self.side_shown(column, way, k)? {
             Some(parts) => {
-                self.shown.push(parts)?;
+                self.show(parts)?;
                 Ok(true)
             }
             None => Ok(false),
         }
+    }
+
+    /// Keeps what shows the next value, or the next side of one.
+    fn show(&mut self, parts: Parts) -> Result<(), Stop> {
+        self.shown.push(parts)?;
+        Ok(())
     }
 
     /// The parts that refute that the column is at most k, or at least k + 1, by one row whose last column it is.
@@ -242,10 +256,10 @@ impl<'a> Picker<'a> {
         self.tableau.fix(0)?;
         self.tableau.aim(column)?;
         let Some(parts) = self.tableau.reach(column, self.pivots)? else {
-            self.shown.push(Vec::new(self.alloc))?;
+            self.show(Vec::new(self.alloc))?;
             return self.reached(column, true);
         };
-        self.shown.push(parts)?;
+        self.show(parts)?;
         self.seek_whole(column)
     }
 

@@ -25,6 +25,13 @@ pub fn try_solve(
 /// The proposal.
 fn solved(alloc: Global, rows: &[Row], columns: u32, pivots: u32) -> Result<Found, Stop> {
     let mut tableau = Tableau::new(alloc, rows)?;
+    let found = found_by(&mut tableau, columns, pivots);
+    drop(tableau);
+    found
+}
+
+/// The proposal of a tableau.
+fn found_by(tableau: &mut Tableau, columns: u32, pivots: u32) -> Result<Found, Stop> {
     match tableau.solve(pivots)? {
         Some(parts) => Ok(Found::Refuted(parts)),
         None => Ok(Found::Point(tableau.point(columns)?)),

@@ -109,7 +109,7 @@ pub(crate) struct Solved {
 }
 
 /// Which way a line's value has to move.
-#[derive(Clone, Copy, PartialEq, Eq)]
+#[derive(Clone, Copy)]
 pub enum Way {
     Up,
     Down,
@@ -144,6 +144,14 @@ pub struct Tableau<'a> {
     spare: Form,
 }
 
+/// Whether a variable has to fall so that its term with that coefficient moves that way.
+fn falls(coefficient: i128, way: Way) -> bool {
+    match way {
+        Way::Up => coefficient < 0,
+        Way::Down => coefficient >= 0,
+    }
+}
+
 /// How the value compares with a whole number.
 fn compared(value: &Frac, bound: i128) -> Ordering {
     if is_whole(value) {
@@ -158,16 +166,16 @@ fn compared(value: &Frac, bound: i128) -> Ordering {
 impl<'a> Tableau<'a> {
     /// The tableau in which all columns are 0.
     pub fn new(alloc: Global, rows: &'a [Row]) -> Result<Self, Stop> {
-        let mut tableau = Tableau {
+        let mut lines = Vec::new(alloc);
+        push_lines(alloc, &mut lines, rows)?;
+        Ok(Tableau {
             alloc,
             rows,
             fixed: Vec::new(alloc),
-            lines: Vec::new(alloc),
+            lines,
             solved: Vec::new(alloc),
             spare: Vec::new(alloc),
-        };
-        push_lines(alloc, &mut tableau.lines, rows)?;
-        Ok(tableau)
+        })
     }
 
     /// Multipliers that refute the rows, or none: then all rows hold at the values at hand.
@@ -224,7 +232,11 @@ impl<'a> Tableau<'a> {
     pub fn first_violated(&self) -> Option<Violated> {
         let mut first: Option<(u32, Violated)> = None;
         for (place, line) in self.lines.iter().enumerate() {
-            if first.is_none_or(|(row, _)| line.row < row) {
+            let is_before = match first {
+                Some((row, _)) => line.row < row,
+                None => true,
+            };
+            if is_before {
                 if let Some(way) = self.way(line) {
                     first = Some((line.row, Violated { place, way }));
                 }
@@ -239,7 +251,7 @@ impl<'a> Tableau<'a> {
         match term.0 {
             Variable::Column(_) => true,
             Variable::Sum(row) => match self.rows.get(row as usize) {
-                Some(row) => row.kind() == RowKind::Le && (term.1 < 0) == (way == Way::Up),
+                Some(row) => row.kind() == RowKind::Le && falls(term.1, way),
                 None => false,
             },
         }
@@ -326,24 +338,26 @@ impl<'a> Tableau<'a> {
         zero: Form,
         moved: &Frac,
     ) -> Result<(), Stop> {
-        let is_negative = coefficient < 0;
-        let denominator = if is_negative {
-            opposite(coefficient)?
-        } else {
-            coefficient
-        };
-        let value = added(&whole(self.bound(row)?)?, moved)?;
-        let mut form = zero;
-        drop_term(&mut form, Variable::Sum(row));
-        if !is_negative {
-            negate(&mut form)?;
-        }
-        self.lines.push(Line {
+        let mut line = Line {
             row,
-            form,
-            denominator,
-            value,
-        })?;
+            form: zero,
+            denominator: coefficient,
+            value: *moved,
+        };
+        self.solve_for_row(&mut line)?;
+        add_line(&mut self.lines, line)
+    }
+
+    /// Solves a line for its row: so far its form is 0, the denominator is what the form has of the row, and the value is how far the row
+    /// was moved from its bound.
+    fn solve_for_row(&self, line: &mut Line) -> Result<(), Stop> {
+        drop_term(&mut line.form, Variable::Sum(line.row));
+        if line.denominator < 0 {
+            line.denominator = opposite(line.denominator)?;
+        } else {
+            negate(&mut line.form)?;
+        }
+        line.value = added(&whole(self.bound(line.row)?)?, &line.value)?;
         Ok(())
     }
 
@@ -353,7 +367,10 @@ impl<'a> Tableau<'a> {
         let Some(line) = self.lines.get(violated.place) else {
             return Err(Stop::Past);
         };
-        let sign = if violated.way == Way::Up { 1 } else { -1 };
+        let sign = match violated.way {
+            Way::Up => 1,
+            Way::Down => -1,
+        };
         let zero = self.zero_of(line)?;
         parts_of(self.alloc, zero.as_slice(), sign)
     }
@@ -362,14 +379,14 @@ impl<'a> Tableau<'a> {
     pub fn point(&self, columns: u32) -> Result<Vec<Frac>, Stop> {
         let mut values = Vec::with_capacity(self.alloc, columns as usize)?;
         if columns > 0 {
-            push_zeros(&mut values, columns)?;
-            self.put_solutions(&mut values)?;
+            self.push_values(&mut values, columns)?;
         }
         Ok(values)
     }
 
-    /// Puts the values at hand of the columns that were solved for in their places.
-    fn put_solutions(&self, values: &mut Vec<Frac>) -> Result<(), Stop> {
+    /// Adds the values at hand of so many columns at the end: those that were solved for are not 0.
+    fn push_values(&self, values: &mut Vec<Frac>, columns: u32) -> Result<(), Stop> {
+        push_zeros(values, columns)?;
         let sums = self.sums()?;
         // a form names columns that were solved for later, or never
         for Solved { column, zero } in self.solved.iter().rev() {
@@ -410,8 +427,14 @@ fn push_lines(alloc: Global, lines: &mut Vec<Line>, rows: &[Row]) -> Result<(), 
     lines.reserve(rows.len())?;
     let zero = whole(0)?;
     for (number, row) in rows.iter().enumerate() {
-        lines.push(line_of(alloc, number, row, zero)?)?;
+        add_line(lines, line_of(alloc, number, row, zero)?)?;
     }
+    Ok(())
+}
+
+/// Adds a line at the end.
+pub(crate) fn add_line(lines: &mut Vec<Line>, line: Line) -> Result<(), Stop> {
+    lines.push(line)?;
     Ok(())
 }
 
