@@ -27,3 +27,7 @@ pub mod ToldEnds
 pub mod ToldSites
 pub mod PathTraces
 pub mod ToldChoices
+mod LinesRead
+mod LastTurns
+mod ChosenSoFar
+mod ActsRead

@@ -1,6 +1,7 @@
 use Rattle.std.proofs.Common.{codes}
 use Rattle.trace_replay.proofs.Stripped.{stripped, not_in_front}
 use Rattle.trace_replay.proofs.LineReading.{no_assertion_word, no_assertion_number, no_assertion_line, no_line_number}
+use Rattle.trace_replay.proofs.LinesRead.{assertion_read}
 use Rattle.trace_replay.proofs.pieces.assertion.Goals as goal
 
 pub returns-in_err-rest : goal.returns-in_err-rest
@@ -22,3 +23,9 @@ returns-in_err-line c =
     rw c.from_residual-in_err-line.ensures (no_line_number c.in_ok-number.number c.args.bytes.now c.in_ok-rest.rest.now c.in_ok-number.rest.now c.in_ok-rest-2.rest.now
     (stripped (codes "assertion ") c.args.bytes.now c.in_ok-rest.rest.now c.in_ok-rest.ensures.cases) c.in_ok-number.ensures
     (stripped (codes "line ") c.in_ok-number.rest.now c.in_ok-rest-2.rest.now c.in_ok-rest-2.ensures.cases) c.in_err-line.ensures)
+
+pub returns : goal.returns
+returns c =
+    assertion_read c.in_ok-number.number c.in_ok-line.line c.args.bytes.now c.in_ok-rest.rest.now c.in_ok-number.rest.now c.in_ok-rest-2.rest.now c.in_ok-line.rest.now
+    (stripped (codes "assertion ") c.args.bytes.now c.in_ok-rest.rest.now c.in_ok-rest.ensures.cases) c.in_ok-number.ensures
+    (stripped (codes "line ") c.in_ok-number.rest.now c.in_ok-rest-2.rest.now c.in_ok-rest-2.ensures.cases) c.in_ok-line.ensures

@@ -1,6 +1,7 @@
-use Rattle.std.proofs.Common.{◌∙◌, ℕ, ◌+◌, Bool, cond, List, [], ◌∷◌, drop, get_or, sym, ap, append-nil}
+use Rattle.std.proofs.Common.{◌∙◌, ℕ, ◌+◌, Bool, cond, List, [], ◌∷◌, drop, get_or, refl, sym, ap, append-nil}
 use Rattle.lowered_graph.specs.LoweredSteps.Edges.{those_in}
 use Rattle.trace_replay.proofs.ToldChoices.Turns.{turn}
+use Rattle.trace_replay.proofs.LastTurns.{last_turn}
 use Rattle.trace_replay.proofs.told_choices.imports.shared.Goals as goal
 use Rattle.trace_replay.proofs.told_choices.imports.shared.Goals.{then-is_in+in_ok-push, else-is_in}
 
@@ -18,3 +19,11 @@ loop-global-preserved c =
           [] c.loop-global-test.true (ap (λ (b : Bool). cond b (n ∷ rest) rest) (sym c.is_in.ensures ∙ w.if-is_in.false))
           (ap (λ v. v.items) w.found-is ∙ sym (append-nil c.loop-global.found.items)) c.loop-global.invariant
     ]
+
+pub loop-global-init : goal.loop-global-init
+loop-global-init c = rw c.new-found.ensures.items refl
+
+pub returns : goal.returns
+returns c =
+    last_turn (those_in c.args.targets.now) c.args.modified.now c.loop-global.global-index c.loop-global.found.items (those_in c.args.targets.now c.args.modified.now) refl
+    c.loop-global-test.false c.loop-global.invariant

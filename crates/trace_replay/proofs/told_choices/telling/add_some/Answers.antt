@@ -6,6 +6,7 @@ use Rattle.math_facts.specs.Fits.{Fits}
 use Rattle.trace_replay.specs.ToldChoices.Telling.{ChoiceFits, ChoicesFit}
 use Rattle.trace_replay.proofs.ToldChoices.Steps.{all_snoc}
 use Rattle.trace_replay.proofs.ToldChoices.Turns.{turn}
+use Rattle.trace_replay.proofs.LastTurns.{last_turn}
 use Rattle.trace_replay.proofs.told_choices.telling.add_some.Goals as goal
 
 fits_at : (xs : List ℤ) (i : ℕ) → AllByRecursion Fits xs → i < length xs → Fits (get_or xs i (pos 0))
@@ -25,3 +26,14 @@ loop-value-preserved c =
       fits = λ a h.
           subst ChoicesFit (sym p) (all_snoc ChoiceFits c.loop-value.told.items (Some z) (c.loop-value.invariant.fits a h) (fits_at c.args.values.now c.loop-value.value-index a c.loop-value-test.true));
     }
+
+pub loop-value-init : goal.loop-value-init
+loop-value-init c = record { value = refl; fits = λ a h. h }
+
+pub returns-clause-value : goal.returns-clause-value
+returns-clause-value c =
+    last_turn (λ (zs : List ℤ). map (λ (y : ℤ). Some y) zs) c.args.values.now c.loop-value.value-index c.loop-value.told.items
+    (c.args.told.now.items ++ map (λ (y : ℤ). Some y) c.args.values.now) refl c.loop-value-test.false c.loop-value.invariant.value
+
+pub returns-clause-fits : goal.returns-clause-fits
+returns-clause-fits c = c.loop-value.invariant.fits

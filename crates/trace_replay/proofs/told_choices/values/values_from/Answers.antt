@@ -1,4 +1,4 @@
-use Rattle.std.proofs.Common.{◌≡◌, ◌∙◌, ◌+◌, [], ◌∷◌, ◌++◌, sym, ap}
+use Rattle.std.proofs.Common.{◌≡◌, ◌∙◌, ℕ, ◌+◌, arith, [], ◌∷◌, ◌++◌, sym, ap}
 use Rattle.std.proofs.lemmas.List.{map-append}
 use Rattle.std.proofs.Common.{rules}
 use Rattle.std.specs.Int.{w128}
@@ -22,3 +22,17 @@ loop-i-preserved c =
           ∙ sym (ap (read (point_of c.args.point.now)) (columns_more c.args.first c.loop-i.i) ∙ map-append (point_of c.args.point.now) (columns_from c.args.first c.loop-i.i) ((c.args.first + c.loop-i.i) ∷ []));
       fits = λ h. subst (AllByRecursion Fits) (sym items) (all_snoc Fits c.loop-i.values.items c.value_at.result (c.loop-i.invariant.fits h) (c.value_at.ensures.fits h));
     }
+
+pub loop-i-init : goal.loop-i-init
+loop-i-init c = record {
+  value = c.in_ok-values.ensures.items;
+  fits = λ a. rw c.in_ok-values.ensures.items tt;
+}
+
+pub returns-clause-value : goal.returns-clause-value
+returns-clause-value c =
+    let e : c.loop-i.i ≡ c.args.count = omega (arith, c.loop-i-test.false, c.loop-i.auto.i-end) in
+    c.loop-i.invariant.value ∙ ap (λ (n : ℕ). read (point_of c.args.point.now) (columns_from c.args.first n)) e
+
+pub returns-clause-fits : goal.returns-clause-fits
+returns-clause-fits c = c.loop-i.invariant.fits
