@@ -1,6 +1,6 @@
 //! Which sources and targets are tried by a letter, by their numbers.
 
-ghost use Rattle.std.specs.Prelude.{◌≡◌, [], ◌∷◌, map, IfOk};
+ghost use Rattle.std.specs.Prelude.{◌≡◌, [], ◌∷◌, map, IfOk, OnOk};
 ghost use Rattle.std.specs.List.{flat_map};
 ghost use Rattle.nwa_base.specs.Members.{SameMembers};
 ghost use Rattle.proof_reuse.specs.Ties.Choices as spec;
@@ -78,6 +78,29 @@ fn pair_fits(preds: &[Scoped], from: u32, to: u32, pair: (usize, usize)) -> bool
     is_in(preds, from, pair.0) && is_in(preds, to, pair.1)
 }
 
+/// Adds what the pairs that fit give, with the predicates of the source's procedure.
+fn add_pair_choices(
+    alloc: Global,
+    preds: &[Scoped],
+    pairs: &[(usize, usize)],
+    from: u32,
+    to: u32,
+    here: &[usize],
+    choices: &mut IndexSet<(usize, usize)>,
+) -> Result<(), AllocError>
+    requires here { here.now ≡ spec.numbers_in preds.now from }
+    requires kept { SameMembers choices.old.keys ((0, 0) ∷ (1, 1) ∷ []) }
+    ensures { OnOk result (SameMembers choices.new.keys (spec.pair_choices preds.now pairs.now from to)) }
+{
+    for pair in pairs {
+        if pair_fits(preds, from, to, *pair) {
+            let more = pair_sources(alloc, here, *pair)?;
+            add_pairs(choices, more)?;
+        }
+    }
+    Ok(())
+}
+
 /// What is tried with a source in one procedure and a target in another: true to true, false to false, and the pairs.
 pub(crate) fn pair_choices(
     alloc: Global,
@@ -91,12 +114,7 @@ pub(crate) fn pair_choices(
     let here = numbers_in(alloc, preds, from)?;
     bounded(pairs.len().saturating_mul(here.len().saturating_add(1)))?;
     let mut choices = kept_pairs(alloc)?;
-    for pair in pairs {
-        if pair_fits(preds, from, to, *pair) {
-            let more = pair_sources(alloc, &here, *pair)?;
-            add_pairs(&mut choices, more)?;
-        }
-    }
+    add_pair_choices(alloc, preds, pairs, from, to, &here, &mut choices)?;
     Ok(choices)
 }
 
@@ -189,6 +207,31 @@ fn three_fits(preds: &[Scoped], callee: u32, caller: u32, three: (usize, usize, 
     is_in(preds, callee, three.0) && is_in(preds, caller, three.1) && is_in(preds, caller, three.2)
 }
 
+/// Adds what the threes that fit give, with the predicates of the callee and of the caller.
+fn add_three_choices(
+    alloc: Global,
+    preds: &[Scoped],
+    threes: &[(usize, usize, usize)],
+    callee: u32,
+    caller: u32,
+    exits: &[usize],
+    befores: &[usize],
+    choices: &mut IndexSet<(usize, usize, usize)>,
+) -> Result<(), AllocError>
+    requires exits { exits.now ≡ spec.numbers_in preds.now callee }
+    requires befores { befores.now ≡ spec.numbers_in preds.now caller }
+    requires kept { SameMembers choices.old.keys ((0, 0, 0) ∷ (1, 0, 1) ∷ (0, 1, 1) ∷ []) }
+    ensures { OnOk result (SameMembers choices.new.keys (spec.three_choices preds.now threes.now callee caller)) }
+{
+    for three in threes {
+        if three_fits(preds, callee, caller, *three) {
+            let more = three_sources(alloc, exits, befores, *three)?;
+            add_threes(choices, more)?;
+        }
+    }
+    Ok(())
+}
+
 /// What is tried by a return.
 pub(crate) fn three_choices(
     alloc: Global,
@@ -207,11 +250,15 @@ pub(crate) fn three_choices(
         .saturating_mul(befores.len().saturating_add(1));
     bounded(threes.len().saturating_mul(sources))?;
     let mut choices = kept_threes(alloc)?;
-    for three in threes {
-        if three_fits(preds, callee, caller, *three) {
-            let more = three_sources(alloc, &exits, &befores, *three)?;
-            add_threes(&mut choices, more)?;
-        }
-    }
+    add_three_choices(
+        alloc,
+        preds,
+        threes,
+        callee,
+        caller,
+        &exits,
+        &befores,
+        &mut choices,
+    )?;
     Ok(choices)
 }

@@ -19,17 +19,19 @@ fn common(alloc: Global, first: &Nwa, second: &Nwa) -> Result<Nwa, AllocError>
     ensures { IfOk result (λ c. (w : List Letter) → Accepts c w ↔ (Accepts first.now w × ((Accepts second.now w → ⊥) → ⊥))) }
 {
     let others = difference(alloc, first, second)?;
-    difference(alloc, first, &others)
+    let both = difference(alloc, first, &others);
+    drop(others);
+    both
 }
 
-/// A word that both accept; `None` exactly where there is none.
-fn common_word(alloc: Global, first: &Nwa, second: &Nwa) -> Result<Option<Word>, AllocError>
+/// A word of what both accept; `None` exactly where there is none.
+fn word_of(alloc: Global, both: &Nwa, second: &Nwa) -> Result<Option<Word>, AllocError>
+    requires { (w : List Letter) → Accepts both.now w → (Accepts second.now w → ⊥) → ⊥ }
     ensures { IfOk result (λ o. MatchOption o
-        ((w : List Letter) → Accepts first.now w → Accepts second.now w → ⊥)
-        (λ w. Accepts first.now w × Accepts second.now w)) }
+        ((w : List Letter) → Accepts both.now w → ⊥)
+        (λ w. Accepts both.now w × Accepts second.now w)) }
 {
-    let both = common(alloc, first, second)?;
-    match find(alloc, &both, 0)? {
+    match find(alloc, both, 0)? {
         Found::Word(word) => {
             // The differences leave open whether it is accepted, so it is read.
             if !accepts(alloc, second, &word)? {
@@ -39,6 +41,18 @@ fn common_word(alloc: Global, first: &Nwa, second: &Nwa) -> Result<Option<Word>,
         }
         Found::Empty => Ok(None),
     }
+}
+
+/// A word that both accept; `None` exactly where there is none.
+fn common_word(alloc: Global, first: &Nwa, second: &Nwa) -> Result<Option<Word>, AllocError>
+    ensures { IfOk result (λ o. MatchOption o
+        ((w : List Letter) → Accepts first.now w → Accepts second.now w → ⊥)
+        (λ w. Accepts first.now w × Accepts second.now w)) }
+{
+    let both = common(alloc, first, second)?;
+    let word = word_of(alloc, &both, second);
+    drop(both);
+    word
 }
 
 /// An entry of the automaton, with a word that it and the program accept; `None` exactly where there is none.
@@ -51,11 +65,16 @@ pub fn first(
     ensures entry { IfOk result (λ r. IfSome r (λ e. (e.evidence ≡ reused) × Accepts icfg.now.automaton e.word × Accepts reused.automaton e.word)) }
     ensures none { result ≡ Ok None → (w : List Letter) → Accepts icfg.now.automaton w → Accepts reused.automaton w → ⊥ }
 {
-    match common_word(alloc, icfg.nwa(), reused.nwa())? {
-        Some(word) => Ok(Some(Entry {
-            word,
-            evidence: reused,
-        })),
-        None => Ok(None),
-    }
+    let Ok(found) = common_word(alloc, icfg.nwa(), reused.nwa()) else {
+        drop(reused);
+        return Err(AllocError);
+    };
+    let Some(word) = found else {
+        drop(reused);
+        return Ok(None);
+    };
+    Ok(Some(Entry {
+        word,
+        evidence: reused,
+    }))
 }

@@ -153,6 +153,7 @@ fn picked(
         return Ok(None);
     };
     if !agrees(icfg, &triple) {
+        drop(triple);
         return Ok(None);
     }
     Ok(Some(triple))

@@ -15,6 +15,7 @@ use crate::taking::Earlier;
 use hoare_check::prove_all;
 use letter_acts::Icfg;
 use std::alloc::{AllocError, Global};
+use std::mem::replace;
 use std::thread::Threads;
 use triple_rows::{Proof, Triple};
 
@@ -49,24 +50,16 @@ fn settle<R: Threads + Sync>(
     rt: &R,
     alloc: Global,
     icfg: &Icfg,
-    work: Work,
-) -> Result<Work, AllocError>
-    requires { AllByRecursion (Agrees (alphabet_of icfg.now)) work.waiting.items }
-    ensures settles { IfOk result (λ new. (old : Content) (n : ℕ) → IsSettling icfg.now old n work.waiting.items work.proofs.items → IsSettling icfg.now old n new.waiting.items new.proofs.items) }
-    ensures none { IfOk result (λ new. new.waiting.items ≡ []) }
+    work: &mut Work,
+) -> Result<(), AllocError>
+    requires { AllByRecursion (Agrees (alphabet_of icfg.now)) work.old.waiting.items }
+    ensures settles { OnOk result ((old : Content) (n : ℕ) → IsSettling icfg.now old n work.old.waiting.items work.old.proofs.items → IsSettling icfg.now old n work.new.waiting.items work.new.proofs.items) }
+    ensures none { OnOk result (work.new.waiting.items ≡ []) }
 {
-    let Work {
-        waiting,
-        mut proofs,
-        left,
-    } = work;
+    let waiting = replace(&mut work.waiting, Vec::new(alloc));
     let tried = prove_all(rt, alloc, icfg, waiting)?;
-    keep(tried, &mut proofs)?;
-    Ok(Work {
-        waiting: Vec::new(alloc),
-        proofs,
-        left,
-    })
+    keep(tried, &mut work.proofs)?;
+    Ok(())
 }
 
 /// Tries what waits, where it is much.
@@ -74,14 +67,14 @@ fn settle_many<R: Threads + Sync>(
     rt: &R,
     alloc: Global,
     icfg: &Icfg,
-    work: Work,
-) -> Result<Work, AllocError>
-    requires { AllByRecursion (Agrees (alphabet_of icfg.now)) work.waiting.items }
-    ensures settles { IfOk result (λ new. (old : Content) (n : ℕ) → IsSettling icfg.now old n work.waiting.items work.proofs.items → IsSettling icfg.now old n new.waiting.items new.proofs.items) }
-    ensures agree { IfOk result (λ new. AllByRecursion (Agrees (alphabet_of icfg.now)) new.waiting.items) }
+    work: &mut Work,
+) -> Result<(), AllocError>
+    requires { AllByRecursion (Agrees (alphabet_of icfg.now)) work.old.waiting.items }
+    ensures settles { OnOk result ((old : Content) (n : ℕ) → IsSettling icfg.now old n work.old.waiting.items work.old.proofs.items → IsSettling icfg.now old n work.new.waiting.items work.new.proofs.items) }
+    ensures agree { OnOk result (AllByRecursion (Agrees (alphabet_of icfg.now)) work.new.waiting.items) }
 {
     if work.waiting.len() < MANY {
-        return Ok(work);
+        return Ok(());
     }
     settle(rt, alloc, icfg, work)
 }
@@ -93,17 +86,39 @@ fn settle_letter<R: Threads + Sync>(
     icfg: &Icfg,
     earlier: &Earlier,
     letter: u32,
-    mut work: Work,
-) -> Result<Work, AllocError>
+    work: &mut Work,
+) -> Result<(), AllocError>
     requires letter { letter < length icfg.now.acts }
-    requires agree { AllByRecursion (Agrees (alphabet_of icfg.now)) work.waiting.items }
-    ensures settles { IfOk result (λ new. (old : Content) → IsTakenFrom icfg.now old (taken earlier.now) → IsSettling icfg.now old letter work.waiting.items work.proofs.items → IsSettling icfg.now old (letter + 1) new.waiting.items new.proofs.items) }
-    ensures agree { IfOk result (λ new. AllByRecursion (Agrees (alphabet_of icfg.now)) new.waiting.items) }
+    requires agree { AllByRecursion (Agrees (alphabet_of icfg.now)) work.old.waiting.items }
+    ensures settles { OnOk result ((old : Content) → IsTakenFrom icfg.now old (taken earlier.now) → IsSettling icfg.now old letter work.old.waiting.items work.old.proofs.items → IsSettling icfg.now old (letter + 1) work.new.waiting.items work.new.proofs.items) }
+    ensures agree { OnOk result (AllByRecursion (Agrees (alphabet_of icfg.now)) work.new.waiting.items) }
 {
     let mut candidates = candidates_by(alloc, icfg, earlier, letter)?;
     work.left = left_of(work.left, candidates.len())?;
     work.waiting.append(&mut candidates)?;
-    settle_many(rt, alloc, icfg, work)
+    settle_many(rt, alloc, icfg, work)?;
+    Ok(())
+}
+
+/// Settles the candidates by all letters, of which there are so many.
+fn settle_letters<R: Threads + Sync>(
+    rt: &R,
+    alloc: Global,
+    icfg: &Icfg,
+    earlier: &Earlier,
+    count: u32,
+    work: &mut Work,
+) -> Result<(), AllocError>
+    requires count { count ≡ length icfg.now.acts }
+    requires waiting { work.old.waiting.items ≡ [] }
+    requires proofs { work.old.proofs.items ≡ [] }
+    ensures { OnOk result ((old : Content) → IsTakenFrom icfg.now old (taken earlier.now) → IsSettling icfg.now old (length icfg.now.acts) [] work.new.proofs.items) }
+{
+    for letter in 0..count {
+        settle_letter(rt, alloc, icfg, earlier, letter, work)?;
+    }
+    settle(rt, alloc, icfg, work)?;
+    Ok(())
 }
 
 /// The proofs of candidates by all letters, among them one of each that Decide refutes without cuts.
@@ -123,9 +138,6 @@ pub(crate) fn settle_all<R: Threads + Sync>(
         proofs: Vec::new(alloc),
         left: MOST_CANDIDATES,
     };
-    for letter in 0..count {
-        work = settle_letter(rt, alloc, icfg, earlier, letter, work)?;
-    }
-    let done = settle(rt, alloc, icfg, work)?;
-    Ok(done.proofs)
+    settle_letters(rt, alloc, icfg, earlier, count, &mut work)?;
+    Ok(work.proofs)
 }

@@ -1,14 +1,18 @@
 //! What is taken from an earlier annotation.
 
-ghost use Rattle.std.specs.Prelude.{IfOk};
+ghost use Rattle.std.specs.Prelude.{◌≡◌, map, IfOk, OnOk};
+ghost use Rattle.std.specs.List.{filter_map};
+ghost use Rattle.nwa_base.specs.Members.{SameMembers};
+ghost use Rattle.proof_form.specs.Lines as form;
 ghost use Rattle.proof_reuse.specs.Ties.Choices.{IsTakenFrom};
+ghost use Rattle.proof_reuse.specs.Ties.Numbers as spec;
 ghost use Rattle.proof_reuse.specs.Ties.Views.{taken};
 
 use crate::founds::{Founds, founds_of};
 use crate::lines::{back_threes, call_pairs, inside_pairs};
 use indexmap::IndexSet;
 use letter_acts::Icfg;
-use proof_form::Annotation;
+use proof_form::{Annotation, TripleLine};
 use std::alloc::{AllocError, Global};
 use triple_rows::Scoped;
 
@@ -26,6 +30,25 @@ pub(crate) struct Earlier {
     pub(crate) backs: IndexSet<(usize, usize, usize)>,
 }
 
+/// Takes the triples of lines, by the numbers of what their numbers stand for.
+fn take_triples(
+    alloc: Global,
+    numbers: &[Option<usize>],
+    lines: &[TripleLine],
+    earlier: &mut Earlier,
+) -> Result<(), AllocError>
+    ensures preds { OnOk result (earlier.new.preds ≡ earlier.old.preds) }
+    ensures insides { OnOk result (SameMembers earlier.new.insides.keys (filter_map (spec.inside_pair numbers.now) (map form.triple lines.now))) }
+    ensures calls { OnOk result (SameMembers earlier.new.calls.keys (filter_map (spec.call_pair numbers.now) (map form.triple lines.now))) }
+    ensures backs { OnOk result (SameMembers earlier.new.backs.keys (filter_map (spec.back_three numbers.now) (map form.triple lines.now))) }
+{
+    earlier.insides = inside_pairs(alloc, numbers, lines)?;
+    earlier.calls = call_pairs(alloc, numbers, lines)?;
+    earlier.backs = back_threes(alloc, numbers, lines)?;
+    Ok(())
+}
+
+/// What is taken from an annotation.
 pub(crate) fn taken_from(
     alloc: Global,
     icfg: &Icfg,
@@ -34,11 +57,15 @@ pub(crate) fn taken_from(
     ensures { IfOk result (λ e. IsTakenFrom icfg.now old.now (taken e)) }
 {
     let Founds { preds, numbers } = founds_of(alloc, icfg, old.preds())?;
-    let lines = old.triples();
-    Ok(Earlier {
+    let mut earlier = Earlier {
         preds,
-        insides: inside_pairs(alloc, &numbers, lines)?,
-        calls: call_pairs(alloc, &numbers, lines)?,
-        backs: back_threes(alloc, &numbers, lines)?,
-    })
+        insides: IndexSet::new(alloc),
+        calls: IndexSet::new(alloc),
+        backs: IndexSet::new(alloc),
+    };
+    let Ok(()) = take_triples(alloc, &numbers, old.triples(), &mut earlier) else {
+        drop(earlier);
+        return Err(AllocError);
+    };
+    Ok(earlier)
 }

@@ -2,12 +2,12 @@ use Rattle.std.proofs.Common.{◌≡◌, ◌∙◌, ℕ, List, [], ◌∷◌, ge
 use Rattle.proof_reuse.specs.Ties.Choices.{numbers_in, pair_sources, pair_fits}
 use Rattle.proof_reuse.specs.Ties.Sets.{InsertsAll}
 use Rattle.proof_reuse.proofs.SetLaws.{got_any, chosen_none, chosen_puts, chosen_skips, chosen_all}
-use Rattle.proof_reuse.proofs.choosing.pair_choices.Goals as goal
-use Rattle.proof_reuse.proofs.choosing.pair_choices.Goals.{then-pair_fits+in_ok-more+in_ok-add_pairs, else-pair_fits}
+use Rattle.proof_reuse.proofs.choosing.add_pair_choices.Goals as goal
+use Rattle.proof_reuse.proofs.choosing.add_pair_choices.Goals.{then-pair_fits+in_ok-more+in_ok-add_pairs, else-pair_fits}
 
 pub loop-pair-init : goal.loop-pair-init
 loop-pair-init c =
-    chosen_none ((0, 0) ∷ ((1, 1) ∷ [])) (pair_sources (numbers_in c.args.preds.now c.args.from)) (pair_fits c.args.preds.now c.args.from c.args.to) c.in_ok-choices.choices.keys c.in_ok-choices.ensures
+    chosen_none ((0, 0) ∷ ((1, 1) ∷ [])) (pair_sources (numbers_in c.args.preds.now c.args.from)) (pair_fits c.args.preds.now c.args.from c.args.to) c.args.choices.now.keys c.requires.kept
 
 pub loop-pair-preserved : goal.loop-pair-preserved
 loop-pair-preserved c =
@@ -19,7 +19,7 @@ loop-pair-preserved c =
           (chosen_puts ((0, 0) ∷ ((1, 1) ∷ [])) (pair_sources (numbers_in c.args.preds.now c.args.from)) (pair_fits c.args.preds.now c.args.from c.args.to) c.args.pairs.now c.loop-pair.pair-index
           x c.loop-pair.choices.keys w.add_pairs.new.set.keys c.loop-pair-test.true at (sym c.pair_fits.ensures ∙ w.if-pair_fits.true)
           (subst (λ (l : List (ℕ × ℕ)). InsertsAll c.loop-pair.choices.keys l w.add_pairs.new.set.keys)
-          (w.in_ok-more.ensures ∙ ap (λ (here : List ℕ). pair_sources here x) (w.deref.ensures.value ∙ c.in_ok-here.ensures)) w.in_ok-add_pairs.ensures)
+          (w.in_ok-more.ensures ∙ ap (λ (here : List ℕ). pair_sources here x) c.requires.here) w.in_ok-add_pairs.ensures)
           c.loop-pair.invariant)
       | else-pair_fits w ↦
           rw w.choices-is

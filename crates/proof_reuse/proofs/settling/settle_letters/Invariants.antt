@@ -5,7 +5,7 @@ use Rattle.proof_form.specs.Annotations.{Content}
 use Rattle.proof_reuse.specs.Ties.Choices.{IsTakenFrom}
 use Rattle.proof_reuse.specs.Ties.Settling.{IsSettling}
 use Rattle.proof_reuse.specs.Ties.Views.{taken}
-use Rattle.proof_reuse.proofs.settling.settle_all.Given as goal
+use Rattle.proof_reuse.proofs.settling.settle_letters.Given as goal
 
 abbrev pub invariant-loop-letter : goal.invariant-loop-letter
 invariant-loop-letter g l = record {

@@ -2,13 +2,13 @@ use Rattle.std.proofs.Common.{◌≡◌, ◌∙◌, ℕ, List, [], ◌∷◌, ge
 use Rattle.proof_reuse.specs.Ties.Choices.{numbers_in, three_sources, three_fits}
 use Rattle.proof_reuse.specs.Ties.Sets.{InsertsAll}
 use Rattle.proof_reuse.proofs.SetLaws.{got_any, chosen_none, chosen_puts, chosen_skips, chosen_all}
-use Rattle.proof_reuse.proofs.choosing.three_choices.Goals as goal
-use Rattle.proof_reuse.proofs.choosing.three_choices.Goals.{then-three_fits+in_ok-more+in_ok-add_threes, else-three_fits}
+use Rattle.proof_reuse.proofs.choosing.add_three_choices.Goals as goal
+use Rattle.proof_reuse.proofs.choosing.add_three_choices.Goals.{then-three_fits+in_ok-more+in_ok-add_threes, else-three_fits}
 
 pub loop-three-init : goal.loop-three-init
 loop-three-init c =
     chosen_none ((0, 0, 0) ∷ ((1, 0, 1) ∷ ((0, 1, 1) ∷ []))) (three_sources (numbers_in c.args.preds.now c.args.callee) (numbers_in c.args.preds.now c.args.caller))
-    (three_fits c.args.preds.now c.args.callee c.args.caller) c.in_ok-choices.choices.keys c.in_ok-choices.ensures
+    (three_fits c.args.preds.now c.args.callee c.args.caller) c.args.choices.now.keys c.requires.kept
 
 pub loop-three-preserved : goal.loop-three-preserved
 loop-three-preserved c =
@@ -22,8 +22,8 @@ loop-three-preserved c =
           c.loop-three-test.true at (sym c.three_fits.ensures ∙ w.if-three_fits.true)
           (subst (λ (l : List (ℕ × ℕ × ℕ)). InsertsAll c.loop-three.choices.keys l w.add_threes.new.set.keys)
           (w.in_ok-more.ensures ∙
-          ap (λ (exits : List ℕ). three_sources exits w.deref-then-three_fits.result.now x) (w.deref.ensures.value ∙ c.in_ok-exits.ensures) ∙
-          ap (λ (befores : List ℕ). three_sources (numbers_in c.args.preds.now c.args.callee) befores x) (w.deref-then-three_fits.ensures.value ∙ c.in_ok-befores.ensures))
+          ap (λ (exits : List ℕ). three_sources exits c.args.befores.now x) c.requires.exits ∙
+          ap (λ (befores : List ℕ). three_sources (numbers_in c.args.preds.now c.args.callee) befores x) c.requires.befores)
           w.in_ok-add_threes.ensures) c.loop-three.invariant)
       | else-three_fits w ↦
           rw w.choices-is
