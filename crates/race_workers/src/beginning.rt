@@ -32,7 +32,10 @@ pub(crate) fn begin<R: Wait>(
     let Some(entry) = first else {
         return Ok(());
     };
-    let kept = kept_behind(alloc, icfg.nwa(), &entry)?;
+    let Ok(kept) = kept_behind(alloc, icfg.nwa(), &entry) else {
+        drop(entry);
+        return Err(AllocError);
+    };
     match cell.publish(rt, pass, 0, entry, kept) {
         Ok(_) => Ok(()),
         // The pass has all shares, so no other has set an end or added an entry.

@@ -6,7 +6,7 @@ ghost use Rattle.typed_tree.specs.TypingRules.TypedParts.{typed_program};
 ghost use Rattle.lowered_graph.specs.Lowered.{lowered};
 ghost use Rattle.race_rounds.specs.Limits.{AreInRange};
 ghost use Rattle.race_rounds.specs.Rounds.{IsGiven, IsRaceOf};
-ghost use Rattle.version_cell.specs.Passes.{IsPassOf};
+ghost use Rattle.version_cell.specs.Passes.{IsPassOf, newcomer};
 ghost use Rattle.race_workers.specs.Ties.Parts.{IsJob, HasRun};
 
 use crate::beginning::begin;
@@ -22,7 +22,23 @@ use std::alloc::{AllocError, Global};
 use std::sync::{Arc, Wait};
 use std::thread::Threads;
 use typed_tree::typing_rules::Typed;
-use version_cell::{Pass, create};
+use version_cell::{Pass, VersionCell, create};
+
+/// The cell of a race over the graph, and its first pass, which has a share for each worker and one to keep.
+fn opened(
+    alloc: Global,
+    icfg: &Icfg,
+    limits: Limits,
+) -> Result<(VersionCell<Certified>, Pass<Certified>), AllocError>
+    requires limits { AreInRange limits }
+    ensures cell { IfOk result (λ t. (t.0.program ≡ icfg.now.automaton) × (t.0.limit ≡ limits.rounds) × (t.0.shares ≡ limits.workers + 1)) }
+    ensures pass { IfOk result (λ t. t.1 ≡ newcomer t.0) }
+    ensures of_cell { IfOk result (λ t. IsPassOf t.0 t.1) }
+{
+    let automaton = Arc::new(alloc, icfg.nwa().copy()?)?;
+    let shares = limits.workers as u64 + 1;
+    create::<Certified>(alloc, automaton, limits.rounds, shares)
+}
 
 /// Splits a pass off for each worker, runs the workers, and joins their passes. It fails where no worker saw the end.
 fn run<G: Gate + Sync, R: Threads + Wait + Sync>(
@@ -80,10 +96,15 @@ pub fn race_from<G: Gate + Sync, R: Threads + Wait + Sync>(
     ensures race { IfOk result (IsRaceOf (typed_program program.now) first limits) }
     ensures ended { IfOk result (λ r. IsSome r.end) }
 {
-    let automaton = Arc::new(alloc, icfg.nwa().copy()?)?;
-    let shares = limits.workers as u64 + 1;
-    let (cell, mut pass) = create::<Certified>(alloc, automaton, limits.rounds, shares)?;
-    begin(rt, alloc, icfg, &cell, &mut pass, first)?;
+    let Ok((cell, mut pass)) = opened(alloc, icfg, limits) else {
+        drop(first);
+        return Err(AllocError);
+    };
+    let Ok(()) = begin(rt, alloc, icfg, &cell, &mut pass, first) else {
+        drop(pass);
+        drop(cell);
+        return Err(AllocError);
+    };
     let job = Job {
         program,
         icfg,
@@ -91,7 +112,10 @@ pub fn race_from<G: Gate + Sync, R: Threads + Wait + Sync>(
         cell: &cell,
         gate,
     };
-    let pass = run(rt, alloc, &job, pass)?;
+    let Ok(pass) = run(rt, alloc, &job, pass) else {
+        drop(cell);
+        return Err(AllocError);
+    };
     let closed = cell.close(pass);
     // That the history is within the limit is told by the room that is left.
     let _room = closed.sized();

@@ -23,16 +23,16 @@ fn take_rounds<G: Gate + Sync, R: Threads + Wait + Sync>(
     job: &Job<'_, G>,
     number: u32,
     pass: &mut Pass<Certified>,
+    seeker: &mut Seeker,
 ) -> Result<(), AllocError>
     requires job { IsJob (typed_program job.now.program.now) job.now.icfg.now job.now.limits job.now.cell.now }
     requires pass { IsPassAt job.now.cell.now (typed_program job.now.program.now) job.now.limits pass.old.shares pass.old }
     ensures pass { IsPassAt job.now.cell.now (typed_program job.now.program.now) job.now.limits pass.old.shares pass.new }
     ensures ended { OnOk result (IsSome pass.new.ended) }
 {
-    let mut seeker = Seeker::new(alloc, job.icfg, number)?;
     let mut carried = None;
     for _ in rt.forever() {
-        match round(rt, alloc, job, number, pass, &mut seeker, carried)? {
+        match round(rt, alloc, job, number, pass, seeker, carried)? {
             Turn::Again(entry) => carried = entry,
             Turn::Over => return Ok(()),
         }
@@ -54,7 +54,11 @@ pub(crate) fn work<G: Gate + Sync, R: Threads + Wait + Sync>(
     ensures ended { IfOk result.0 (λ _. IsSome result.1.ended) }
 {
     let mut pass = pass;
-    let done = take_rounds(rt, alloc, job, number, &mut pass);
+    let Ok(mut seeker) = Seeker::new(alloc, job.icfg, number) else {
+        return (Err(AllocError), pass);
+    };
+    let done = take_rounds(rt, alloc, job, number, &mut pass, &mut seeker);
+    drop(seeker);
     (done, pass)
 }
 

@@ -5,7 +5,7 @@ use Rattle.race_core.specs.declared.events.Entry.{Entry}
 use Rattle.itp_automaton.specs.Certified.{Certificate}
 use Rattle.race_rounds.specs.Rounds.{automaton_in}
 use Rattle.version_cell.specs.Passes.{Known}
-use Rattle.race_workers.proofs.Givens.{fair_first, known_of}
+use Rattle.race_workers.proofs.Givens.{fair_first, known_of, opened}
 use Rattle.race_workers.proofs.beginning.begin.Goals as goal
 
 pub publish-requires-clause-cell : goal.publish-requires-clause-cell
@@ -15,8 +15,8 @@ pub publish-requires-clause-fair : goal.publish-requires-clause-fair
 publish-requires-clause-fair g c κs within =
     let a = known_of (λ (e : Entry Certificate). Accepts c.args.icfg.now.automaton e.word × Accepts (automaton_in e.evidence) e.word) c.args.first c.in-Some.entry
     c.in-Some.is c.requires.given in
-    fair_first c.args.cell.now c.args.pass.now c.args.icfg.now.automaton c.nwa.result.now (arc_value c.in_ok-kept.kept) c.in-Some.entry c.requires.pass.0
-    c.requires.cell.0 c.nwa.ensures.value a.0 a.1 c.in_ok-kept.ensures.words
+    fair_first c.args.cell.now c.args.pass.now c.args.icfg.now.automaton c.nwa.result.now (arc_value c.in-Ok.kept) c.in-Some.entry c.requires.pass.0
+    c.requires.cell.0 c.nwa.ensures.value a.0 a.1 c.in-Ok.ensures.words
 
 -- the pass has all shares, so no other stands in its way
 pub unreachable-requires : goal.unreachable-requires
@@ -29,3 +29,8 @@ unreachable-requires g c =
     let limit = ap (λ (k : Known Certificate). k.limit) first in
     let some = c.requires.cell.1 in
     true≢false (sym (c.in-Err.ensures.whole whole open_ seen (omega (arith, limit, some))))
+
+pub returns-clause-pass : goal.returns-clause-pass
+returns-clause-pass g c =
+    let m = c.in-Ok-publish.ensures.moment in
+    opened c.args.first c.args.pass.now c.publish.new.pass m.0 c.in-Some.entry c.in-Some.is m.3.2 m.3.3

@@ -6,7 +6,7 @@ use Rattle.race_workers.proofs.racing.race_from.Goals as goal
 
 pub begin-requires-clause-cell : goal.begin-requires-clause-cell
 begin-requires-clause-cell g c =
-    let limit : c.in_ok-cell.cell.limit ≡ c.args.limits.rounds = search rules in
+    let limit : c.in-Ok.cell.limit ≡ c.args.limits.rounds = search rules in
     let some = c.requires.limits.rounds.0 in
     (search rules, omega (arith, limit, some))
 
@@ -15,19 +15,19 @@ begin-requires-clause-given g c = only_words (typed_program c.args.program.now) 
 
 pub run-requires-clause-pass : goal.run-requires-clause-pass
 run-requires-clause-pass g c κs within =
-    let shares : c.in_ok-cell.cell.shares ≡ c.args.limits.workers + 1 = search rules in (
-      c.in_ok-begin.ensures.of_cell,
-      opened_shares c.args.first c.in_ok-cell.cell c.in_ok-cell.pass c.begin.new.pass (c.args.limits.workers + 1) c.in_ok-cell.ensures.pass
-          c.in_ok-begin.ensures.pass shares,
+    let shares : c.in-Ok.cell.shares ≡ c.args.limits.workers + 1 = search rules in (
+      c.in-Ok-begin.ensures.of_cell,
+      opened_shares c.args.first c.in-Ok.cell c.in-Ok.pass c.begin.new.pass (c.args.limits.workers + 1) c.in-Ok.ensures.pass
+          c.in-Ok-begin.ensures.pass shares,
     )
 
 pub returns-clause-race : goal.returns-clause-race
 returns-clause-race g c =
     let t = typed_program c.args.program.now in
-    let program : c.in_ok-cell.cell.program ≡ c.args.icfg.now.automaton = search rules in
-    let limit : c.in_ok-cell.cell.limit ≡ c.args.limits.rounds = search rules in
+    let program : c.in-Ok.cell.program ≡ c.args.icfg.now.automaton = search rules in
+    let limit : c.in-Ok.cell.limit ≡ c.args.limits.rounds = search rules in
     let room = c.sized-room.ensures in
-    closes c.in_ok-cell.cell t c.args.limits c.args.limits.workers c.args.first c.in_ok-cell.pass c.begin.new.pass c.in_ok-pass.pass c.close-closed.result
-    c.in_ok-cell.ensures.pass c.in_ok-begin.ensures.pass c.in_ok-pass.ensures.done c.close-closed.ensures
+    closes c.in-Ok.cell t c.args.limits c.args.limits.workers c.args.first c.in-Ok.pass c.begin.new.pass c.in-Ok-run.pass c.close-closed.result
+    c.in-Ok.ensures.pass c.in-Ok-begin.ensures.pass c.in-Ok-run.ensures.done c.close-closed.ensures
     (only_given t c.args.icfg.now.automaton c.args.first c.requires.given) (program ∙ ap (λ (x : Graph). x.automaton) c.requires.lowered) limit
     (omega (arith, room))
