@@ -113,13 +113,20 @@ pub test_passed : (test : Plan → ℕ → Bool) (frame : Columns) (g : Column �
 test_passed test frame g m args e at wide bs f count want b h t =
     sym (λ i. test (plan_for frame g m args e at wide bs f count want h i) (width_for frame g m args e at wide bs f count h i)) ∙ t
 
+-- the lists of both
+pub lists_passed : (frame : Columns) (g : Column → Bool) (m : ℕ) (args : List TypedExpression) (e : TypedExpression) (at : Span) (wide : Columns) (bs : List TypedExpression) (f : TypedExpression) (count : ℕ)
+    (want : Bool) → ArePassed frame g m args e at wide bs f count →
+    listed_plan (passed_plan wide bs f want) (length wide) ≡ listed_plan (freed_passed_plan frame m args e want) (length (widened frame m (passed_count frame args e)))
+lists_passed frame g m args e at wide bs f count want h =
+    let w : length wide ≡ length (widened frame m (passed_count frame args e)) = ap length h.columns ∙ ap (λ (j : ℕ). length (widened frame m j)) (count_for frame g m args e at wide bs f count h) in
+    λ j. listed_plan (plan_for frame g m args e at wide bs f count want h j) (w j)
+
 pub letters_passed : (frame : Columns) (g : Column → Bool) (m : ℕ) (args : List TypedExpression) (e : TypedExpression) (at : Span) (wide : Columns) (bs : List TypedExpression) (f : TypedExpression) (count more : ℕ)
     (want : Bool) (cs : List Conjunction) (ls : List MarkedConjunction) → ArePassed frame g m args e at wide bs f count → more ≡ 0 → cs ≡ listed_plan (passed_plan wide bs f want) (length wide) →
     ls ≡ map (marked_letter (length frame) count more) cs → ls ≡ told_letters frame m args e want
 letters_passed frame g m args e at wide bs f count more want cs ls h n k l =
     let c : count ≡ passed_count frame args e = count_for frame g m args e at wide bs f count h in
-    let w : length wide ≡ length (widened frame m (passed_count frame args e)) = ap length h.columns ∙ ap (λ (j : ℕ). length (widened frame m j)) c in
-    l ∙ (λ i. map (marked_letter (length frame) (c i) (n i)) ((k ∙ (λ j. listed_plan (plan_for frame g m args e at wide bs f count want h j) (w j))) i))
+    l ∙ (λ i. map (marked_letter (length frame) (c i) (n i)) ((k ∙ lists_passed frame g m args e at wide bs f count want h) i))
 
 -- ---- where there is no product the frame, the arguments and the condition are their own
 

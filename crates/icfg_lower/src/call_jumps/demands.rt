@@ -9,7 +9,7 @@ ghost use Rattle.cond_jumps.specs.Conjunctions.{is_wide, all_fit, listed_plan};
 ghost use Rattle.cond_jumps.specs.Conjs.{conjunctions};
 ghost use Rattle.cond_jumps.specs.Frames.{fixed_in};
 ghost use Rattle.cond_jumps.specs.FreeProducts.FreeProducts.{free_products, all_free_products, all_freed};
-ghost use Rattle.cond_jumps.specs.FreeProducts.FrameLetters.{passed_count, freed_passed_plan, told_letters, passed_letters};
+ghost use Rattle.cond_jumps.specs.FreeProducts.FrameLetters.{widened, passed_count, freed_passed_plan, told_letters, passed_letters};
 ghost use Rattle.cond_jumps.specs.FreeProducts.LetterView.{all_marked};
 ghost use Rattle.icfg_lower.specs.CallJumps.CallLists.{passed_plan, local_variables, demand_plan, demand_base};
 
@@ -95,6 +95,52 @@ fn passed_arguments(
     with_variables(freed.exprs, span, freed.next, products)
 }
 
+/// The conjunctions of a condition of a called procedure, told so, over the frame and `count` products: those of the arguments, and behind them
+/// those of the condition.
+fn freed_passed(
+    alloc: Global,
+    globals: &[VarInfo],
+    frame: &Frame,
+    locals: u32,
+    args: &[TExpr],
+    cond: &TExpr,
+    products: u32,
+    count: u32,
+    want: bool,
+) -> Result<Vec<Conj>, JumpFault>
+    requires constants { fixed_in frame.now.columns.items ≡ is_constant_column globals.now }
+    requires fit_args { AllByRecursion (λ e. forms_fit (is_constant_column globals.now) false e ≡ true) (map expression args.now) }
+    requires fit { forms_fit (is_constant_column globals.now) false (expression cond.now) ≡ true }
+    requires products { products ≡ length (free_products (is_constant_column globals.now) false (expression cond.now)) }
+    requires count { count ≡ length (all_free_products (is_constant_column globals.now) (map expression args.now)) + products }
+    ensures list { IfOk result (λ cs. conjunctions cs.items ≡ listed_plan (freed_passed_plan frame.now.columns.items locals (map expression args.now) (expression cond.now) want)
+        (length (widened frame.now.columns.items locals (passed_count frame.now.columns.items (map expression args.now) (expression cond.now))))) }
+    ensures narrow { IsOk result → is_wide (freed_passed_plan frame.now.columns.items locals (map expression args.now) (expression cond.now) want)
+        (length frame.now.columns.items + passed_count frame.now.columns.items (map expression args.now) (expression cond.now)) ≡ false }
+    ensures fits { IsOk result → all_fit (freed_passed_plan frame.now.columns.items locals (map expression args.now) (expression cond.now) want)
+        (length frame.now.columns.items + passed_count frame.now.columns.items (map expression args.now) (expression cond.now)) ≡ true }
+    ensures too_wide { result ≡ Err JumpFault.TooWide → is_wide (freed_passed_plan frame.now.columns.items locals (map expression args.now) (expression cond.now) want)
+        (length frame.now.columns.items + passed_count frame.now.columns.items (map expression args.now) (expression cond.now)) ≡ true }
+    ensures too_big { result ≡ Err JumpFault.TooBig →
+        (is_wide (freed_passed_plan frame.now.columns.items locals (map expression args.now) (expression cond.now) want)
+        (length frame.now.columns.items + passed_count frame.now.columns.items (map expression args.now) (expression cond.now)) ≡ false)
+        × (all_fit (freed_passed_plan frame.now.columns.items locals (map expression args.now) (expression cond.now) want)
+        (length frame.now.columns.items + passed_count frame.now.columns.items (map expression args.now) (expression cond.now)) ≡ false) }
+{
+    let behind = column_behind(0, args.len())?;
+    let wide = widened(alloc, frame, locals, count)?;
+    let Ok(passing) = passed_arguments(alloc, globals, locals, args, cond.span, products) else {
+        drop(wide);
+        return Err(JumpFault::Memory);
+    };
+    let Ok(made) = freed(alloc, globals, behind, false, cond) else {
+        drop(passing);
+        drop(wide);
+        return Err(JumpFault::Memory);
+    };
+    passed(alloc, &wide, passing.as_slice(), &made.expr, want)
+}
+
 /// The letters of a condition of a called procedure, told so, the arguments standing for its parameters.
 fn told_demanded(
     alloc: Global,
@@ -124,11 +170,9 @@ fn told_demanded(
     let first = all_count(alloc, globals, args)?;
     let second = product_count(alloc, globals, false, cond)?;
     let count = column_behind(first, second as usize)?;
-    let behind = column_behind(0, args.len())?;
-    let wide = widened(alloc, frame, locals, count)?;
-    let passing = passed_arguments(alloc, globals, locals, args, cond.span, second)?;
-    let made = freed(alloc, globals, behind, false, cond)?;
-    let conjs = passed(alloc, &wide, passing.as_slice(), &made.expr, want)?;
+    let conjs = freed_passed(
+        alloc, globals, frame, locals, args, cond, second, count, want,
+    )?;
     Ok(letters_over(alloc, frame, count, 0, conjs.as_slice())?)
 }
 

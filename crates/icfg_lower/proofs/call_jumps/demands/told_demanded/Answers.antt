@@ -1,107 +1,30 @@
-use Rattle.std.proofs.Common.{◌≡◌, true, false, Bool, List, map, length, refl, ◌∙◌, ap, arith}
-use Rattle.boogie_tree.specs.declared.tree.Column.{Column}
-use Rattle.boogie_tree.specs.declared.span.Span.{Span}
+use Rattle.std.proofs.Common.{◌≡◌, ◌+◌, false, List, map, length, sym, ◌∙◌, ap}
 use Rattle.typed_tree.specs.TypedTree.{TypedExpression}
 use Rattle.typed_tree.specs.TypedView.{expression}
-use Rattle.typed_tree.specs.Scope.{is_constant_column}
 use Rattle.letter_acts.specs.Frames.{Columns}
 use Rattle.cond_jumps.specs.declared.fault.JumpFault.TheVariants.{TooWide, TooBig}
 use Rattle.cond_jumps.specs.Conjs.{conjunctions}
-use Rattle.cond_jumps.specs.Conjunctions.{is_wide, all_fit}
-use Rattle.cond_jumps.specs.FreeProducts.LetterView.{all_marked}
+use Rattle.cond_jumps.specs.FreeProducts.FreeProducts.{free_products, all_free_products}
+use Rattle.cond_jumps.specs.FreeProducts.FrameLetters.{passed_count}
+use Rattle.cond_jumps.specs.FreeProducts.Letters.{marked_letter}
 use Rattle.icfg_lower.proofs.CallJumps.ConjoinedLemmas.{handed}
-use Rattle.icfg_lower.proofs.CallJumps.ParameterLemmas.{length-mapped}
-use Rattle.icfg_lower.proofs.CallJumps.DemandLemmas.{ArePassed, are_passed, test_passed, letters_passed}
 use Rattle.icfg_lower.proofs.call_jumps.demands.told_demanded.Goals as goal
 
+pub freed_passed-requires-clause-count : goal.freed_passed-requires-clause-count
+freed_passed-requires-clause-count c = c.in_ok-count.ensures ∙ (λ j. c.in_ok-first.ensures j + c.in_ok-second.second)
+
 pub returns-in_err-conjs-clause-too_wide : goal.returns-in_err-conjs-clause-too_wide
-returns-in_err-conjs-clause-too_wide c t =
-    let F : Columns = c.args.frame.now.columns.items in
-    let g : Column → Bool = is_constant_column c.args.globals.now in
-    let A : List TypedExpression = map expression c.args.args.now in
-    let e : TypedExpression = expression c.args.cond.now in
-    let at : Span = c.args.cond.now.span in
-    let W : Columns = c.in_ok-wide.wide.columns.items in
-    let B : List TypedExpression = map expression c.as_slice.result.now in
-    let d : TypedExpression = expression c.in_ok-made.made.expr in
-    let l = length-mapped c.args.args.now in
-    let k = c.in_ok-behind.ensures in
-    let b : c.in_ok-behind.behind ≡ length A = omega (arith, l, k) in
-    let h : ArePassed F g c.args.locals A e at W B d c.in_ok-count.count =
-    are_passed F g c.args.locals A e at W B d c.in_ok-first.first c.in_ok-second.second c.in_ok-count.count c.in_ok-behind.behind c.requires.constants c.in_ok-first.ensures c.in_ok-second.ensures
-    c.in_ok-count.ensures c.in_ok-wide.ensures (ap (map expression) c.as_slice.ensures.value ∙ c.in_ok-passing.ensures) b c.in_ok-made.ensures.expr in
-    test_passed is_wide F g c.args.locals A e at W B d c.in_ok-count.count c.args.want true h (c.passed.ensures.too_wide (handed c.passed.result c.from_residual-in_err-conjs.result c.in_err-conjs.field-0.0 TooWide c.in_err-conjs.was c.from_residual-in_err-conjs.ensures.1 t))
+returns-in_err-conjs-clause-too_wide c t = c.freed_passed.ensures.too_wide (handed c.freed_passed.result c.from_residual-in_err-conjs.result c.in_err-conjs.field-0.0 TooWide c.in_err-conjs.was c.from_residual-in_err-conjs.ensures.1 t)
 
 pub returns-in_err-conjs-clause-too_big : goal.returns-in_err-conjs-clause-too_big
-returns-in_err-conjs-clause-too_big c t =
-    let F : Columns = c.args.frame.now.columns.items in
-    let g : Column → Bool = is_constant_column c.args.globals.now in
-    let A : List TypedExpression = map expression c.args.args.now in
-    let e : TypedExpression = expression c.args.cond.now in
-    let at : Span = c.args.cond.now.span in
-    let W : Columns = c.in_ok-wide.wide.columns.items in
-    let B : List TypedExpression = map expression c.as_slice.result.now in
-    let d : TypedExpression = expression c.in_ok-made.made.expr in
-    let l = length-mapped c.args.args.now in
-    let k = c.in_ok-behind.ensures in
-    let b : c.in_ok-behind.behind ≡ length A = omega (arith, l, k) in
-    let h : ArePassed F g c.args.locals A e at W B d c.in_ok-count.count =
-    are_passed F g c.args.locals A e at W B d c.in_ok-first.first c.in_ok-second.second c.in_ok-count.count c.in_ok-behind.behind c.requires.constants c.in_ok-first.ensures c.in_ok-second.ensures
-    c.in_ok-count.ensures c.in_ok-wide.ensures (ap (map expression) c.as_slice.ensures.value ∙ c.in_ok-passing.ensures) b c.in_ok-made.ensures.expr in
-    let r = c.passed.ensures.too_big (handed c.passed.result c.from_residual-in_err-conjs.result c.in_err-conjs.field-0.0 TooBig c.in_err-conjs.was c.from_residual-in_err-conjs.ensures.1 t) in
-    (test_passed is_wide F g c.args.locals A e at W B d c.in_ok-count.count c.args.want false h r.0, test_passed all_fit F g c.args.locals A e at W B d c.in_ok-count.count c.args.want false h r.1)
+returns-in_err-conjs-clause-too_big c t = c.freed_passed.ensures.too_big (handed c.freed_passed.result c.from_residual-in_err-conjs.result c.in_err-conjs.field-0.0 TooBig c.in_err-conjs.was c.from_residual-in_err-conjs.ensures.1 t)
 
 pub returns-clause-list : goal.returns-clause-list
 returns-clause-list c =
     let F : Columns = c.args.frame.now.columns.items in
-    let g : Column → Bool = is_constant_column c.args.globals.now in
     let A : List TypedExpression = map expression c.args.args.now in
     let e : TypedExpression = expression c.args.cond.now in
-    let at : Span = c.args.cond.now.span in
-    let W : Columns = c.in_ok-wide.wide.columns.items in
-    let B : List TypedExpression = map expression c.as_slice.result.now in
-    let d : TypedExpression = expression c.in_ok-made.made.expr in
-    let l = length-mapped c.args.args.now in
-    let k = c.in_ok-behind.ensures in
-    let b : c.in_ok-behind.behind ≡ length A = omega (arith, l, k) in
-    let h : ArePassed F g c.args.locals A e at W B d c.in_ok-count.count =
-    are_passed F g c.args.locals A e at W B d c.in_ok-first.first c.in_ok-second.second c.in_ok-count.count c.in_ok-behind.behind c.requires.constants c.in_ok-first.ensures c.in_ok-second.ensures
-    c.in_ok-count.ensures c.in_ok-wide.ensures (ap (map expression) c.as_slice.ensures.value ∙ c.in_ok-passing.ensures) b c.in_ok-made.ensures.expr in
-    letters_passed F g c.args.locals A e at W B d c.in_ok-count.count 0 c.args.want (conjunctions c.as_slice-2.result.now) (all_marked c.in_ok-letters_over.field-0.items) h refl
-    (ap conjunctions c.as_slice-2.ensures.value ∙ c.in_ok-conjs.ensures.list) c.in_ok-letters_over.ensures
-
-pub returns-clause-narrow : goal.returns-clause-narrow
-returns-clause-narrow c t =
-    let F : Columns = c.args.frame.now.columns.items in
-    let g : Column → Bool = is_constant_column c.args.globals.now in
-    let A : List TypedExpression = map expression c.args.args.now in
-    let e : TypedExpression = expression c.args.cond.now in
-    let at : Span = c.args.cond.now.span in
-    let W : Columns = c.in_ok-wide.wide.columns.items in
-    let B : List TypedExpression = map expression c.as_slice.result.now in
-    let d : TypedExpression = expression c.in_ok-made.made.expr in
-    let l = length-mapped c.args.args.now in
-    let k = c.in_ok-behind.ensures in
-    let b : c.in_ok-behind.behind ≡ length A = omega (arith, l, k) in
-    let h : ArePassed F g c.args.locals A e at W B d c.in_ok-count.count =
-    are_passed F g c.args.locals A e at W B d c.in_ok-first.first c.in_ok-second.second c.in_ok-count.count c.in_ok-behind.behind c.requires.constants c.in_ok-first.ensures c.in_ok-second.ensures
-    c.in_ok-count.ensures c.in_ok-wide.ensures (ap (map expression) c.as_slice.ensures.value ∙ c.in_ok-passing.ensures) b c.in_ok-made.ensures.expr in
-    test_passed is_wide F g c.args.locals A e at W B d c.in_ok-count.count c.args.want false h (c.in_ok-conjs.ensures.narrow refl)
-
-pub returns-clause-fits : goal.returns-clause-fits
-returns-clause-fits c t =
-    let F : Columns = c.args.frame.now.columns.items in
-    let g : Column → Bool = is_constant_column c.args.globals.now in
-    let A : List TypedExpression = map expression c.args.args.now in
-    let e : TypedExpression = expression c.args.cond.now in
-    let at : Span = c.args.cond.now.span in
-    let W : Columns = c.in_ok-wide.wide.columns.items in
-    let B : List TypedExpression = map expression c.as_slice.result.now in
-    let d : TypedExpression = expression c.in_ok-made.made.expr in
-    let l = length-mapped c.args.args.now in
-    let k = c.in_ok-behind.ensures in
-    let b : c.in_ok-behind.behind ≡ length A = omega (arith, l, k) in
-    let h : ArePassed F g c.args.locals A e at W B d c.in_ok-count.count =
-    are_passed F g c.args.locals A e at W B d c.in_ok-first.first c.in_ok-second.second c.in_ok-count.count c.in_ok-behind.behind c.requires.constants c.in_ok-first.ensures c.in_ok-second.ensures
-    c.in_ok-count.ensures c.in_ok-wide.ensures (ap (map expression) c.as_slice.ensures.value ∙ c.in_ok-passing.ensures) b c.in_ok-made.ensures.expr in
-    test_passed all_fit F g c.args.locals A e at W B d c.in_ok-count.count c.args.want true h (c.in_ok-conjs.ensures.fits refl)
+    let n : c.in_ok-count.count ≡ passed_count F A e =
+    c.in_ok-count.ensures ∙ (λ j. c.in_ok-first.ensures j + c.in_ok-second.ensures j)
+    ∙ (λ j. length (all_free_products (sym c.requires.constants j) A) + length (free_products (sym c.requires.constants j) false e)) in
+    c.in_ok-letters_over.ensures ∙ (λ j. map (marked_letter (length F) (n j) 0) ((ap conjunctions c.as_slice.ensures.value ∙ c.in_ok-conjs.ensures.list) j))
