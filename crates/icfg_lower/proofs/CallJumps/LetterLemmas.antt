@@ -100,6 +100,28 @@ pub map_through : {X Y Z : Type 0} (f : Y → Z) (k : X → Y) (xs : List X) →
 map_through f k [] = refl
 map_through f k (x ∷ xs) = ap (λ (l : List _). f (k x) ∷ l) (map_through f k xs)
 
+-- the lists of both
+pub lists_ensured : (frame : Columns) (g : Column → Bool) (m : ℕ) (q : TypedProcedure) (args es : List TypedExpression) (wide : Columns) (bs fs : List TypedExpression) (first second : ℕ)
+    (globals : List VarInfo) (targets : List ℕ) → AreEnsured frame g m q args es wide bs fs first second →
+    listed_plan (ensures_plan wide (length wide) globals q bs targets (whole_columns (length frame + first) second) fs) (behind_written (length wide) q targets) ≡
+    listed_plan (freed_ensures_plan frame m globals q args targets es) (freed_ensures_base frame q args targets es)
+lists_ensured frame g m q args es wide bs fs first second globals targets h =
+    λ j. listed_plan (plan_for frame g m q args es wide bs fs first second globals targets h j) (base_for frame g m q args es wide bs fs first second targets h j)
+
+-- the letters of the list
+pub letters_counted : (frame : Columns) (g : Column → Bool) (m : ℕ) (q : TypedProcedure) (args es : List TypedExpression) (first second count more own : ℕ) (globals : List VarInfo) (targets : List ℕ)
+    (cs : List Conjunction) (ks : List MarkedConjunction) → fixed_in frame ≡ g → first ≡ length (all_free_products g args) → second ≡ length (all_free_products g es) →
+    count ≡ first + second → own ≡ length (those_in targets q.modifies) → more ≡ length (import_written q.modifies targets) + own →
+    cs ≡ listed_plan (freed_ensures_plan frame m globals q args targets es) (freed_ensures_base frame q args targets es) →
+    ks ≡ map (behind_helpers own) (map (marked_letter (length frame) count more) cs) → ks ≡ ensures_letters frame m globals q args targets es
+letters_counted frame g m q args es first second count more own globals targets cs ks h a b c o p t n =
+    let f : first ≡ all_product_count frame args = a ∙ (λ i. length (all_free_products (sym h i) args)) in
+    let s : second ≡ all_product_count frame es = b ∙ (λ i. length (all_free_products (sym h i) es)) in
+    let d : count ≡ all_product_count frame args + all_product_count frame es = c ∙ (λ j. f j + s j) in
+    let r : more ≡ length (import_written q.modifies targets) + length (those_in targets q.modifies) = p ∙ (λ j. length (import_written q.modifies targets) + o j) in
+    n ∙ (λ j. map (behind_helpers (o j)) (map (marked_letter (length frame) count more) cs)) ∙ map_through (behind_helpers (length (those_in targets q.modifies))) (marked_letter (length frame) count more) cs
+    ∙ (λ j. map (λ x. behind_helpers (length (those_in targets q.modifies)) (marked_letter (length frame) (d j) (r j) x)) (t j))
+
 -- the letters, behind their helpers
 pub letters_ensured : (frame : Columns) (g : Column → Bool) (m : ℕ) (q : TypedProcedure) (args es : List TypedExpression) (wide : Columns) (bs fs : List TypedExpression) (first second count more own : ℕ)
     (globals : List VarInfo) (targets : List ℕ) (cs : List Conjunction) (ls ks : List MarkedConjunction) → AreEnsured frame g m q args es wide bs fs first second →
@@ -107,14 +129,8 @@ pub letters_ensured : (frame : Columns) (g : Column → Bool) (m : ℕ) (q : Typ
     cs ≡ listed_plan (ensures_plan wide (length wide) globals q bs targets (whole_columns (length frame + first) second) fs) (behind_written (length wide) q targets) →
     ls ≡ map (marked_letter (length frame) count more) cs → ks ≡ map (behind_helpers own) ls → ks ≡ ensures_letters frame m globals q args targets es
 letters_ensured frame g m q args es wide bs fs first second count more own globals targets cs ls ks h c o p k l n =
-    let f : first ≡ all_product_count frame args = first_for frame g m q args es wide bs fs first second h in
-    let s : second ≡ all_product_count frame es = second_for frame g m q args es wide bs fs first second h in
-    let d : count ≡ all_product_count frame args + all_product_count frame es = c ∙ (λ j. f j + s j) in
-    let r : more ≡ length (import_written q.modifies targets) + length (those_in targets q.modifies) = p ∙ (λ j. length (import_written q.modifies targets) + o j) in
-    let t : cs ≡ listed_plan (freed_ensures_plan frame m globals q args targets es) (freed_ensures_base frame q args targets es) =
-    k ∙ (λ j. listed_plan (plan_for frame g m q args es wide bs fs first second globals targets h j) (base_for frame g m q args es wide bs fs first second targets h j)) in
-    n ∙ (λ j. map (behind_helpers (o j)) (l j)) ∙ map_through (behind_helpers (length (those_in targets q.modifies))) (marked_letter (length frame) count more) cs
-    ∙ (λ j. map (λ x. behind_helpers (length (those_in targets q.modifies)) (marked_letter (length frame) (d j) (r j) x)) (t j))
+    letters_counted frame g m q args es first second count more own globals targets cs ks h.constants h.first_is h.second_is c o p
+    (k ∙ lists_ensured frame g m q args es wide bs fs first second globals targets h) (n ∙ ap (map (behind_helpers own)) l)
 
 -- ---- where there is no product the frame, the arguments and the conditions are their own
 

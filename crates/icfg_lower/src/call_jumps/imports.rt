@@ -8,9 +8,12 @@ ghost use Rattle.typed_tree.specs.Scope.{is_constant_column};
 ghost use Rattle.cond_jumps.specs.Conjunctions.{is_wide, all_fit, listed_plan};
 ghost use Rattle.cond_jumps.specs.Conjs.{conjunctions};
 ghost use Rattle.cond_jumps.specs.Frames.{fixed_in};
+ghost use Rattle.cond_jumps.specs.FreeProducts.FreeProducts.{all_free_products};
+ghost use Rattle.cond_jumps.specs.FreeProducts.Letters.{marked_letter};
 ghost use Rattle.cond_jumps.specs.FreeProducts.LetterView.{all_marked, exact_letter};
 ghost use Rattle.lowered_graph.specs.LoweredSteps.Edges.{behind_helpers, those_in, import_written, import_plan, import_letters};
 ghost use Rattle.icfg_lower.specs.CallJumps.CallLists.{ensured, ensures_plan, behind_written, freed_ensures_plan, freed_ensures_base, ensures_letters, import_base};
+ghost use Rattle.icfg_lower.specs.CallJumps.Ties.ImportView.{IsLayout};
 
 use crate::call_jumps::conjoined::numbered_paths;
 use crate::call_jumps::ensured::{ensures_count, ensures_told, freed_conditions, plain_conditions};
@@ -94,6 +97,68 @@ fn plain_imported(
     })
 }
 
+/// The letters of conjunctions over the frame, so many products, so many further columns, and their helpers, before which the `own` last of the
+/// further columns are counted.
+fn helped_letters(
+    alloc: Global,
+    frame: &Frame,
+    count: u32,
+    more: usize,
+    own: usize,
+    conjs: &[Conj],
+) -> Result<Vec<MarkedConj>, AllocError>
+    ensures { IfOk result (λ ls. all_marked ls.items ≡ map (behind_helpers own) (map (marked_letter (length frame.now.columns.items) count more) (conjunctions conjs.now))) }
+{
+    let letters = letters_over(alloc, frame, count, more, conjs)?;
+    behind_helpers(alloc, own, letters)
+}
+
+/// The conjunctions of ensures that are told so, over the frame, `count` products, the written columns, and their helpers. The products of the
+/// ensures, so many as `further`, have the columns from number `products` on, behind those of the arguments.
+fn told_paths(
+    alloc: Global,
+    globals: &[VarInfo],
+    frame: &Frame,
+    locals: u32,
+    count: u32,
+    callee: &TProc,
+    args: &[TExpr],
+    targets: &[u32],
+    layout: &Layout,
+    products: u32,
+    further: u32,
+    told: &[TExpr],
+) -> Result<Vec<Conj>, JumpFault>
+    requires constants { fixed_in frame.now.columns.items ≡ is_constant_column globals.now }
+    requires fit_args { AllByRecursion (λ e. forms_fit (is_constant_column globals.now) false e ≡ true) (map expression args.now) }
+    requires fit { AllByRecursion (λ e. forms_fit (is_constant_column globals.now) false e ≡ true) (map expression told.now) }
+    requires layout { IsLayout (length frame.now.columns.items + count) (procedure callee.now) targets.now layout.now }
+    requires products { products ≡ length frame.now.columns.items + length (all_free_products (is_constant_column globals.now) (map expression args.now)) }
+    requires further { further ≡ length (all_free_products (is_constant_column globals.now) (map expression told.now)) }
+    requires count { count ≡ length (all_free_products (is_constant_column globals.now) (map expression args.now)) + further }
+    ensures list { IfOk result (λ cs. conjunctions cs.items ≡ listed_plan (freed_ensures_plan frame.now.columns.items locals globals.now (procedure callee.now) (map expression args.now) targets.now (map expression told.now))
+        (freed_ensures_base frame.now.columns.items (procedure callee.now) (map expression args.now) targets.now (map expression told.now))) }
+    ensures narrow { IsOk result → is_wide (freed_ensures_plan frame.now.columns.items locals globals.now (procedure callee.now) (map expression args.now) targets.now (map expression told.now))
+        (freed_ensures_base frame.now.columns.items (procedure callee.now) (map expression args.now) targets.now (map expression told.now)) ≡ false }
+    ensures fits { IsOk result → all_fit (freed_ensures_plan frame.now.columns.items locals globals.now (procedure callee.now) (map expression args.now) targets.now (map expression told.now))
+        (freed_ensures_base frame.now.columns.items (procedure callee.now) (map expression args.now) targets.now (map expression told.now)) ≡ true }
+    ensures too_wide { result ≡ Err JumpFault.TooWide → is_wide (freed_ensures_plan frame.now.columns.items locals globals.now (procedure callee.now) (map expression args.now) targets.now (map expression told.now))
+        (freed_ensures_base frame.now.columns.items (procedure callee.now) (map expression args.now) targets.now (map expression told.now)) ≡ true }
+    ensures too_big { result ≡ Err JumpFault.TooBig →
+        (is_wide (freed_ensures_plan frame.now.columns.items locals globals.now (procedure callee.now) (map expression args.now) targets.now (map expression told.now))
+        (freed_ensures_base frame.now.columns.items (procedure callee.now) (map expression args.now) targets.now (map expression told.now)) ≡ false)
+        × (all_fit (freed_ensures_plan frame.now.columns.items locals globals.now (procedure callee.now) (map expression args.now) targets.now (map expression told.now))
+        (freed_ensures_base frame.now.columns.items (procedure callee.now) (map expression args.now) targets.now (map expression told.now)) ≡ false) }
+{
+    let wide = widened(alloc, frame, locals, count)?;
+    let conds = freed_conditions(
+        alloc, globals, &wide, locals, callee, args, targets, layout, products, further, told,
+    );
+    drop(wide);
+    let conds = conds?;
+    numbered_paths(alloc, layout.width, conds.as_slice())
+}
+
 /// What a call may do whose ensures are told so.
 fn told_imported(
     alloc: Global,
@@ -131,17 +196,24 @@ fn told_imported(
     let base = column_behind(low, count as usize)?;
     let products = column_behind(low, first as usize)?;
     let layout = laid_out(alloc, base, callee, targets)?;
-    let wide = widened(alloc, frame, locals, count)?;
-    let conds = freed_conditions(
-        alloc, globals, &wide, locals, callee, args, targets, &layout, products, second, told,
-    )?;
-    drop(wide);
-    let conjs = numbered_paths(alloc, layout.width, conds.as_slice())?;
-    drop(conds);
+    let conjs = match told_paths(
+        alloc, globals, frame, locals, count, callee, args, targets, &layout, products, second,
+        told,
+    ) {
+        Ok(conjs) => conjs,
+        Err(fault) => {
+            drop(layout);
+            return Err(fault);
+        }
+    };
     let own = layout.targeted.len();
     let more = layout.written.len() + own;
-    let letters = letters_over(alloc, frame, count, more, conjs.as_slice())?;
-    let conjs = behind_helpers(alloc, own, letters)?;
+    let letters = helped_letters(alloc, frame, count, more, own, conjs.as_slice());
+    drop(conjs);
+    let Ok(conjs) = letters else {
+        drop(layout);
+        return Err(JumpFault::Memory);
+    };
     Ok(Import {
         written: layout.written,
         conjs,
