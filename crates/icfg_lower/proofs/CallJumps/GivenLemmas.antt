@@ -32,12 +32,19 @@ pub test_given : (test : Plan → ℕ → Bool) (frame : Columns) (m before call
     AreColumns frame args before callee first base → test (parameters_get (frame_environment wide) first bs) base ≡ b → test (parameters_plan frame m before args) (parameters_base frame callee args) ≡ b
 test_given test frame m before callee first base args wide bs b h k t = sym (λ i. test (plan_for frame m before callee first base args wide bs h k i) (k.base_is i)) ∙ t
 
+pub list_given : (frame : Columns) (m before callee first base : ℕ) (args : List TypedExpression) (wide : Columns) (bs : List TypedExpression) → AreAllFor frame m args wide bs → AreColumns frame args before callee first base →
+    listed_plan (parameters_get (frame_environment wide) first bs) base ≡ listed_plan (parameters_plan frame m before args) (parameters_base frame callee args)
+list_given frame m before callee first base args wide bs h k = λ i. listed_plan (plan_for frame m before callee first base args wide bs h k i) (k.base_is i)
+
+pub letter_at : (frame : Columns) (m before callee low count : ℕ) (args : List TypedExpression) (c : Conjunction) (l : MarkedConjunction) → low ≡ length frame → count ≡ all_product_count frame args →
+    c ∷ [] ≡ listed_plan (parameters_plan frame m before args) (parameters_base frame callee args) → l ≡ marked_letter low count callee c → l ∷ [] ≡ parameters_letters frame m before callee args
+letter_at frame m before callee low count args c l p q s e = (λ i. e i ∷ []) ∙ (λ i. map (marked_letter (p i) (q i) callee) (s i))
+
 pub letter_given : (frame : Columns) (m before callee low count first base : ℕ) (args : List TypedExpression) (wide : Columns) (bs : List TypedExpression) (c : Conjunction) (l : MarkedConjunction) → AreAllFor frame m args wide bs →
     AreColumns frame args before callee first base → low ≡ length frame → count ≡ all_product_count frame args → c ∷ [] ≡ listed_plan (parameters_get (frame_environment wide) first bs) base →
     l ≡ marked_letter low count callee c → l ∷ [] ≡ parameters_letters frame m before callee args
 letter_given frame m before callee low count first base args wide bs c l h k p q s e =
-    (λ i. e i ∷ []) ∙ (λ i. map (marked_letter (p i) (q i) callee) (s i))
-    ∙ (λ i. map (marked_letter (length frame) (all_product_count frame args) callee) (listed_plan (plan_for frame m before callee first base args wide bs h k i) (k.base_is i)))
+    letter_at frame m before callee low count args c l p q (s ∙ list_given frame m before callee first base args wide bs h k) e
 
 -- where there is no product the conjunction is its own letter
 pub letter_own : (low count callee : ℕ) (c : Conjunction) → count ≡ 0 → exact_letter c ≡ marked_letter low count callee c

@@ -114,6 +114,45 @@ fn arguments(
     Ok(all)
 }
 
+/// The rows with which the parameters of a called procedure have the values of the arguments, of whose `count` products the columns stand behind
+/// the caller's frame, and behind them, from number `high` on, the callee's frame.
+fn freed_arguments(
+    alloc: Global,
+    globals: &[VarInfo],
+    frame: &Frame,
+    locals: u32,
+    count: u32,
+    high: u32,
+    args: &[TExpr],
+    before: u32,
+    callee: u32,
+) -> Result<Conj, JumpFault>
+    requires constants { fixed_in frame.now.columns.items ≡ is_constant_column globals.now }
+    requires fit_args { AllByRecursion (λ e. forms_fit (is_constant_column globals.now) false e ≡ true) (map expression args.now) }
+    requires parameters { before + length args.now ≤ callee }
+    requires count { count ≡ all_product_count frame.now.columns.items (map expression args.now) }
+    requires high { high ≡ length frame.now.columns.items + all_product_count frame.now.columns.items (map expression args.now) }
+    ensures list { IfOk result (λ c. conjunction c ∷ [] ≡ listed_plan (parameters_plan frame.now.columns.items locals before (map expression args.now)) (parameters_base frame.now.columns.items callee (map expression args.now))) }
+    ensures narrow { IsOk result → is_wide (parameters_plan frame.now.columns.items locals before (map expression args.now)) (parameters_base frame.now.columns.items callee (map expression args.now)) ≡ false }
+    ensures fits { IsOk result → all_fit (parameters_plan frame.now.columns.items locals before (map expression args.now)) (parameters_base frame.now.columns.items callee (map expression args.now)) ≡ true }
+    ensures too_wide { result ≡ Err JumpFault.TooWide → ⊥ }
+    ensures too_big { result ≡ Err JumpFault.TooBig →
+        (is_wide (parameters_plan frame.now.columns.items locals before (map expression args.now)) (parameters_base frame.now.columns.items callee (map expression args.now)) ≡ false)
+        × (all_fit (parameters_plan frame.now.columns.items locals before (map expression args.now)) (parameters_base frame.now.columns.items callee (map expression args.now)) ≡ false) }
+{
+    let first = column_behind(high, before as usize)?;
+    let base = column_behind(high, callee as usize)?;
+    if count == 0 {
+        return arguments(alloc, frame, args, first, base);
+    }
+    let wide = widened(alloc, frame, locals, count)?;
+    let Ok(made) = all_freed(alloc, globals, locals, args) else {
+        drop(wide);
+        return Err(JumpFault::Memory);
+    };
+    arguments(alloc, &wide, made.exprs.as_slice(), first, base)
+}
+
 /// The letter with which the parameters of a called procedure have the values of the arguments; it is coarse where it leaves a product of them
 /// free. It is over the caller's frame, the callee's frame of `callee` columns, of which `before` stand before the parameters, and the helpers.
 /// The locals of the caller's frame have numbers below `locals`, and the globals are the program's.
@@ -142,17 +181,14 @@ pub fn parameters(
     };
     let count = all_count(alloc, globals, args)?;
     let high = column_behind(low, count as usize)?;
-    let first = column_behind(high, before as usize)?;
-    let base = column_behind(high, callee as usize)?;
+    let conj = freed_arguments(
+        alloc, globals, frame, locals, count, high, args, before, callee,
+    )?;
     if count == 0 {
-        let conj = arguments(alloc, frame, args, first, base)?;
         return Ok(MarkedConj {
             conj,
             coarse: false,
         });
     }
-    let wide = widened(alloc, frame, locals, count)?;
-    let made = all_freed(alloc, globals, locals, args)?;
-    let conj = arguments(alloc, &wide, made.exprs.as_slice(), first, base)?;
     Ok(letter(alloc, low, count, callee, &conj)?)
 }
