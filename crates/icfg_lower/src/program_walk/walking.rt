@@ -1,6 +1,13 @@
 //! Blocks and the statements in them.
 
-ghost use Rattle.std.specs.Prelude.{◌≡◌, IsSome, OnOk, slice_get};
+ghost use Rattle.std.specs.Prelude.{◌≡◌, ◌≢◌, IsSome, OnOk, slice_get};
+ghost use Rattle.std.specs.declared.alloc.Global.{Global};
+ghost use Rattle.std.specs.declared.vec.Vec.{Vec};
+ghost use Rattle.boogie_tree.specs.declared.span.Span.{Span};
+ghost use Rattle.typed_tree.specs.declared.types.TGuard.{TGuard};
+ghost use Rattle.typed_tree.specs.declared.types.TInv.{TInv};
+ghost use Rattle.typed_tree.specs.declared.types.TStmt.{TStmt};
+ghost use Rattle.typed_tree.specs.declared.types.TStmt.TheVariants as code;
 ghost use Rattle.typed_tree.specs.TypedView as view;
 ghost use Rattle.typed_tree.specs.TypingRules.TypedParts.{typed_program};
 ghost use Rattle.lowered_graph.specs.LoweredSteps.ProgramFrames.{frame_at};
@@ -47,21 +54,21 @@ pub(crate) fn block(
     Ok(())
 }
 
-/// A statement, with the place behind it.
-#[cycle(walking)]
-fn statement(
+/// A statement in which no others stand, with the place behind it.
+fn plain_statement(
     lowering: &mut Lowering<'_>,
     body: &Body,
     first: &TStmt,
     next: Next,
     after: u32,
-    loops: &mut Vec<u32>,
+    loops: &[u32],
 ) -> Result<(), AllocError>
     requires procedure { IsSome (slice_get (typed_program lowering.old.parts).procs body.now.proc) }
     requires fits { StatementFits (typed_program lowering.old.parts) (frame_at (typed_program lowering.old.parts) body.now.proc) (view.statement first.now) next.assertion next.place }
+    requires no_branch { (span : Span) (guard : TGuard) (one other : Vec TStmt Global) → first.now ≢ code.If span guard one other }
+    requires no_loop { (span : Span) (guard : TGuard) (conditions : Vec TInv Global) (inner : Vec TStmt Global) → first.now ≢ code.While span guard conditions inner }
     ensures program { OnOk result (typed_program lowering.new.parts ≡ typed_program lowering.old.parts) }
-    ensures loops { OnOk result (loops.new.items ≡ loops.old.items) }
-    ensures added { OnOk result (StatementAdds (typed_program lowering.old.parts) body.now.proc body.now.exit body.now.labels.items loops.old.items after (view.statement first.now) next.assertion next.place
+    ensures added { OnOk result (StatementAdds (typed_program lowering.old.parts) body.now.proc body.now.exit body.now.labels.items loops.now after (view.statement first.now) next.assertion next.place
         (walked lowering.old) (walked lowering.new)) }
 {
     let here = Here {
@@ -84,6 +91,39 @@ fn statement(
             };
             call(lowering, here, called, next.assertion, after)
         }
+        TStmt::Break(_, levels) => {
+            let to = behind_loop(loops, body.exit, *levels);
+            lowering.skip(here, &[], to)
+        }
+        TStmt::Goto(_, labels) => jump(lowering, here, body, labels),
+        TStmt::Return(_) => lowering.skip(here, &[], body.exit),
+        TStmt::Label(_) => Ok(()),
+        TStmt::If(_, _, _, _) | TStmt::While(_, _, _, _) => unreachable!(),
+    }
+}
+
+/// A statement, with the place behind it.
+#[cycle(walking)]
+fn statement(
+    lowering: &mut Lowering<'_>,
+    body: &Body,
+    first: &TStmt,
+    next: Next,
+    after: u32,
+    loops: &mut Vec<u32>,
+) -> Result<(), AllocError>
+    requires procedure { IsSome (slice_get (typed_program lowering.old.parts).procs body.now.proc) }
+    requires fits { StatementFits (typed_program lowering.old.parts) (frame_at (typed_program lowering.old.parts) body.now.proc) (view.statement first.now) next.assertion next.place }
+    ensures program { OnOk result (typed_program lowering.new.parts ≡ typed_program lowering.old.parts) }
+    ensures loops { OnOk result (loops.new.items ≡ loops.old.items) }
+    ensures added { OnOk result (StatementAdds (typed_program lowering.old.parts) body.now.proc body.now.exit body.now.labels.items loops.old.items after (view.statement first.now) next.assertion next.place
+        (walked lowering.old) (walked lowering.new)) }
+{
+    let here = Here {
+        proc: body.proc,
+        place: next.place,
+    };
+    match first {
         TStmt::If(span, cond, then, otherwise) => {
             let guarded = Guarded { span: *span, cond };
             let forked = fork(
@@ -114,12 +154,6 @@ fn statement(
             let _left = loops.pop();
             Ok(())
         }
-        TStmt::Break(_, levels) => {
-            let to = behind_loop(loops, body.exit, *levels);
-            lowering.skip(here, &[], to)
-        }
-        TStmt::Goto(_, labels) => jump(lowering, here, body, labels),
-        TStmt::Return(_) => lowering.skip(here, &[], body.exit),
-        TStmt::Label(_) => Ok(()),
+        _ => plain_statement(lowering, body, first, next, after, loops),
     }
 }

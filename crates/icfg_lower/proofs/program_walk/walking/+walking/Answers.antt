@@ -1,11 +1,9 @@
-use Rattle.std.proofs.Common.{◌≡◌, ◌∙◌, ◌+◌, ℕ, List, refl, sym, ap, subst, map, drop, length}
-use Rattle.std.proofs.lemmas.List.{length-map}
-use Rattle.boogie_tree.specs.declared.tree.Column.{Column}
-use Rattle.typed_tree.specs.declared.types.TExpr.{TExpr}
+use Rattle.std.proofs.Common.{◌≡◌, ◌∙◌, ◌+◌, ℕ, List, refl, sym, ap, subst, map, drop}
+use Rattle.std.specs.Prelude.{OnOk}
 use Rattle.typed_tree.specs.declared.types.TInv.{TInv}
 use Rattle.typed_tree.specs.declared.types.TStmt.{TStmt}
 use Rattle.typed_tree.specs.TypedView as view
-use Rattle.typed_tree.specs.TypedTree.{TypedStatement, TypedBlock, Then, TypedProcedure, TypedProgram, Havoc, Assign, Call, If, While, Goto}
+use Rattle.typed_tree.specs.TypedTree.{TypedStatement, TypedBlock, Then, TypedProcedure, TypedProgram, If, While}
 use Rattle.typed_tree.specs.TypingRules.Counts.{assertions, points}
 use Rattle.typed_tree.specs.TypingRules.TypedParts.{TypedParts, typed_program}
 use Rattle.lowered_graph.specs.LoweredSteps.ProgramFrames.{frame_at}
@@ -13,7 +11,7 @@ use Rattle.icfg_lower.specs.PlaceEdges.WalkedParts.{walked}
 use Rattle.icfg_lower.specs.ProgramWalk.Ties.Bounds.{BlockFits}
 use Rattle.icfg_lower.specs.ProgramWalk.Ties.Walks.{StatementAdds, BlockAdds}
 use Rattle.icfg_lower.proofs.ProgramWalk.LoopSteps.{on_ok}
-use Rattle.icfg_lower.proofs.ProgramWalk.Seen.{assert_seen, assume_seen, havoc_seen, assign_seen, call_seen, if_seen, while_seen, goto_seen}
+use Rattle.icfg_lower.proofs.ProgramWalk.Seen.{if_seen, while_seen}
 use Rattle.icfg_lower.proofs.ProgramWalk.WalkSteps as step
 use Rattle.icfg_lower.proofs.program_walk.walking.+walking.Goals as goal
 
@@ -49,86 +47,17 @@ block-loop-number-preserved t c =
           c.loop-number.invariant.around c.loop-number-test.true c.index-list-number.is c.before_last_labels-before_last.ensures place assertion c.chosen-next.ensures c.loop-number.invariant.left c.in_ok-statement.ensures.added;
     }
 
-pub statement-returns-in-Assert-clause-added : goal.statement-returns-in-Assert-clause-added
-statement-returns-in-Assert-clause-added t c =
-    on_ok _ _ c.assert.result
-    (λ h. subst
-    (λ (s : TypedStatement). StatementAdds (typed_program c.args.lowering.now.parts) c.args.body.now.proc c.args.body.now.exit c.args.body.now.labels.items c.args.loops.now.items c.args.after s c.args.next.assertion c.args.next.place
-    (walked c.args.lowering.now) (walked c.assert.new.lowering))
-    (sym (ap view.statement c.in-Assert.is ∙ assert_seen c.in-Assert.span c.in-Assert.cond))
-    (step.assert_adds (typed_program c.args.lowering.now.parts) c.args.body.now.proc c.args.body.now.exit c.args.body.now.labels.items c.args.loops.now.items c.args.after c.in-Assert.span (view.expression c.in-Assert.cond)
-    c.args.next.assertion c.args.next.place (walked c.args.lowering.now) (walked c.assert.new.lowering) refl h))
-    c.assert.ensures.item
-
-pub statement-returns-in-Assume-clause-added : goal.statement-returns-in-Assume-clause-added
-statement-returns-in-Assume-clause-added t c =
-    on_ok _ _ c.assume.result
-    (λ h. subst
-    (λ (s : TypedStatement). StatementAdds (typed_program c.args.lowering.now.parts) c.args.body.now.proc c.args.body.now.exit c.args.body.now.labels.items c.args.loops.now.items c.args.after s c.args.next.assertion c.args.next.place
-    (walked c.args.lowering.now) (walked c.assume.new.lowering))
-    (sym (ap view.statement c.in-Assume.is ∙ assume_seen c.in-Assume.span c.in-Assume.cond))
-    (step.assume_adds (typed_program c.args.lowering.now.parts) c.args.body.now.proc c.args.body.now.exit c.args.body.now.labels.items c.args.loops.now.items c.args.after c.in-Assume.span (view.expression c.in-Assume.cond)
-    c.args.next.assertion c.args.next.place (walked c.args.lowering.now) (walked c.assume.new.lowering) refl h))
-    c.assume.ensures.item
-
-pub statement-returns-in-Havoc-clause-added : goal.statement-returns-in-Havoc-clause-added
-statement-returns-in-Havoc-clause-added t c =
-    on_ok _ _ c.havoc.result
-    (λ h. subst
-    (λ (s : TypedStatement). StatementAdds (typed_program c.args.lowering.now.parts) c.args.body.now.proc c.args.body.now.exit c.args.body.now.labels.items c.args.loops.now.items c.args.after s c.args.next.assertion c.args.next.place
-    (walked c.args.lowering.now) (walked c.havoc.new.lowering))
-    (ap (λ (cs : List Column). Havoc c.in-Havoc.field-0 cs) c.deref.ensures.value ∙ sym (ap view.statement c.in-Havoc.is ∙ havoc_seen c.in-Havoc.field-0 c.in-Havoc.columns))
-    (step.plainly (typed_program c.args.lowering.now.parts) c.args.body.now.proc c.args.body.now.exit c.args.body.now.labels.items c.args.loops.now.items c.args.after (Havoc c.in-Havoc.field-0 c.deref.result.now)
-    c.args.next.assertion c.args.next.place (walked c.args.lowering.now) (walked c.havoc.new.lowering) (h c.in-Havoc.field-0 c.args.next.assertion)))
-    c.havoc.ensures.added
-
-pub statement-returns-in-Assign-clause-added : goal.statement-returns-in-Assign-clause-added
-statement-returns-in-Assign-clause-added t c =
-    on_ok _ _ c.assign.result
-    (λ h. subst
-    (λ (s : TypedStatement). StatementAdds (typed_program c.args.lowering.now.parts) c.args.body.now.proc c.args.body.now.exit c.args.body.now.labels.items c.args.loops.now.items c.args.after s c.args.next.assertion c.args.next.place
-    (walked c.args.lowering.now) (walked c.assign.new.lowering))
-    (ap (λ (cs : List Column). Assign c.in-Assign.span cs (map view.expression c.deref-in-Assign-2.result.now)) c.deref-in-Assign.ensures.value
-    ∙ ap (λ (es : List TExpr). Assign c.in-Assign.span c.in-Assign.targets.items (map view.expression es)) c.deref-in-Assign-2.ensures.value
-    ∙ sym (ap view.statement c.in-Assign.is ∙ assign_seen c.in-Assign.span c.in-Assign.targets c.in-Assign.values))
-    (step.assign_adds (typed_program c.args.lowering.now.parts) c.args.body.now.proc c.args.body.now.exit c.args.body.now.labels.items c.args.loops.now.items c.args.after c.in-Assign.span c.deref-in-Assign.result.now (map view.expression c.deref-in-Assign-2.result.now)
-    c.args.next.assertion c.args.next.place (length c.deref-in-Assign-2.result.now) (walked c.args.lowering.now) (walked c.assign.new.lowering) refl (sym (length-map c.deref-in-Assign-2.result.now view.expression)) h))
-    c.assign.ensures.item
-
-pub statement-returns-in-Call-clause-added : goal.statement-returns-in-Call-clause-added
-statement-returns-in-Call-clause-added t c =
-    on_ok _ _ c.call.result
-    (λ h. subst
-    (λ (s : TypedStatement). StatementAdds (typed_program c.args.lowering.now.parts) c.args.body.now.proc c.args.body.now.exit c.args.body.now.labels.items c.args.loops.now.items c.args.after s c.args.next.assertion c.args.next.place
-    (walked c.args.lowering.now) (walked c.call.new.lowering))
-    (ap (λ (cs : List Column). Call c.in-Call.span cs c.in-Call.callee (map view.expression c.deref-in-Call-2.result.now)) c.deref-in-Call.ensures.value
-    ∙ ap (λ (es : List TExpr). Call c.in-Call.span c.in-Call.targets.items c.in-Call.callee (map view.expression es)) c.deref-in-Call-2.ensures.value
-    ∙ sym (ap view.statement c.in-Call.is ∙ call_seen c.in-Call.span c.in-Call.targets c.in-Call.callee c.in-Call.args))
-    (step.plainly (typed_program c.args.lowering.now.parts) c.args.body.now.proc c.args.body.now.exit c.args.body.now.labels.items c.args.loops.now.items c.args.after (Call c.in-Call.span c.deref-in-Call.result.now c.in-Call.callee (map view.expression c.deref-in-Call-2.result.now))
-    c.args.next.assertion c.args.next.place (walked c.args.lowering.now) (walked c.call.new.lowering) h))
-    c.call.ensures.added
-
-pub statement-returns-in-Goto-clause-added : goal.statement-returns-in-Goto-clause-added
-statement-returns-in-Goto-clause-added t c =
-    on_ok _ _ c.jump.result
-    (λ h. subst
-    (λ (s : TypedStatement). StatementAdds (typed_program c.args.lowering.now.parts) c.args.body.now.proc c.args.body.now.exit c.args.body.now.labels.items c.args.loops.now.items c.args.after s c.args.next.assertion c.args.next.place
-    (walked c.args.lowering.now) (walked c.jump.new.lowering))
-    (ap (λ (ks : List ℕ). Goto c.in-Goto.field-0 ks) c.deref-in-Goto.ensures.value ∙ sym (ap view.statement c.in-Goto.is ∙ goto_seen c.in-Goto.field-0 c.in-Goto.labels))
-    (h c.in-Goto.field-0 c.args.next.assertion c.args.after c.args.loops.now.items))
-    c.jump.ensures.added
-
 pub statement-returns-in_ok-block-in-If-clause-added : goal.statement-returns-in_ok-block-in-If-clause-added
 statement-returns-in_ok-block-in-If-clause-added t c =
     on_ok _ _ c.block-in-If.result
     (λ h. subst
     (λ (s : TypedStatement). StatementAdds (typed_program c.args.lowering.now.parts) c.args.body.now.proc c.args.body.now.exit c.args.body.now.labels.items c.args.loops.now.items c.args.after s c.args.next.assertion c.args.next.place
     (walked c.args.lowering.now) (walked c.block-in-If.new.lowering))
-    (ap (λ (b : List TStmt). If c.in-If.span (view.guard c.in-If.cond) (view.statements b) (view.statements c.deref-in-If-2.result.now)) c.deref-in-If.ensures.value
-    ∙ ap (λ (b : List TStmt). If c.in-If.span (view.guard c.in-If.cond) (view.statements c.in-If.then.items) (view.statements b)) c.deref-in-If-2.ensures.value
+    (ap (λ (b : List TStmt). If c.in-If.span (view.guard c.in-If.cond) (view.statements b) (view.statements c.deref-in-If.result.now)) c.deref.ensures.value
+    ∙ ap (λ (b : List TStmt). If c.in-If.span (view.guard c.in-If.cond) (view.statements c.in-If.then.items) (view.statements b)) c.deref-in-If.ensures.value
     ∙ sym (ap view.statement c.in-If.is ∙ if_seen c.in-If.span c.in-If.cond c.in-If.then c.in-If.otherwise))
     (step.if_walked (typed_program c.args.lowering.now.parts) (typed_program c.fork.new.lowering.parts) (typed_program c.block.new.lowering.parts) c.args.body.now.proc c.args.body.now.exit c.args.body.now.labels.items c.args.loops.now.items
-    c.block.new.loops.items c.args.after c.in-If.span (view.guard c.in-If.cond) (view.statements c.deref-in-If.result.now) (view.statements c.deref-in-If-2.result.now) c.args.next.assertion c.args.next.place
+    c.block.new.loops.items c.args.after c.in-If.span (view.guard c.in-If.cond) (view.statements c.deref.result.now) (view.statements c.deref-in-If.result.now) c.args.next.assertion c.args.next.place
     c.in_ok-forked-in-If.forked.first.assertion c.in_ok-forked-in-If.forked.first.place c.in_ok-forked-in-If.forked.second.assertion c.in_ok-forked-in-If.forked.second.place
     (walked c.args.lowering.now) (walked c.fork.new.lowering) (walked c.block.new.lowering) (walked c.block-in-If.new.lowering) c.in_ok-forked-in-If.ensures.program
     (c.in_ok-block-in-If.ensures.program ∙ c.in_ok-forked-in-If.ensures.program) c.in_ok-block-in-If.ensures.loops c.in_ok-forked-in-If.ensures.then_assertion c.in_ok-forked-in-If.ensures.then_place
@@ -136,11 +65,11 @@ statement-returns-in_ok-block-in-If-clause-added t c =
     (subst
     (λ (b : List TStmt). BlockAdds (typed_program c.fork.new.lowering.parts) c.args.body.now.proc c.args.body.now.exit c.args.body.now.labels.items c.args.loops.now.items c.args.after (view.statements b) c.in_ok-forked-in-If.forked.first.assertion
     c.in_ok-forked-in-If.forked.first.place (walked c.fork.new.lowering) (walked c.block.new.lowering))
-    (c.deref-in-If-3.ensures.value ∙ sym c.deref-in-If.ensures.value) c.in_ok-block-in-If.ensures.added)
+    (c.deref-in-If-2.ensures.value ∙ sym c.deref.ensures.value) c.in_ok-block-in-If.ensures.added)
     (subst
     (λ (b : List TStmt). BlockAdds (typed_program c.block.new.lowering.parts) c.args.body.now.proc c.args.body.now.exit c.args.body.now.labels.items c.block.new.loops.items c.args.after (view.statements b) c.in_ok-forked-in-If.forked.second.assertion
     c.in_ok-forked-in-If.forked.second.place (walked c.block.new.lowering) (walked c.block-in-If.new.lowering))
-    (c.deref-in-If-4.ensures.value ∙ sym c.deref-in-If-2.ensures.value) h)))
+    (c.deref-in-If-3.ensures.value ∙ sym c.deref-in-If.ensures.value) h)))
     c.block-in-If.ensures.added
 
 pub statement-returns-in_ok-block-in-While-clause-added : goal.statement-returns-in_ok-block-in-While-clause-added
@@ -159,3 +88,10 @@ statement-returns-in_ok-block-in-While-clause-added t c =
     (λ (b : List TStmt). BlockAdds (typed_program c.head.new.lowering.parts) c.args.body.now.proc c.args.body.now.exit c.args.body.now.labels.items c.push.new.self.items c.args.next.place (view.statements b) c.in_ok-first-in-While.first.assertion
     c.in_ok-first-in-While.first.place (walked c.head.new.lowering) (walked c.block-in-While.new.lowering))
     (c.deref-in-While-3.ensures.value ∙ sym c.deref-in-While-2.ensures.value) c.in_ok-block-in-While.ensures.added))
+
+pub statement-returns-in_default-clause-added : goal.statement-returns-in_default-clause-added
+statement-returns-in_default-clause-added t c =
+    subst
+    (λ (ls : List ℕ). OnOk c.plain_statement.result (StatementAdds (typed_program c.args.lowering.now.parts) c.args.body.now.proc c.args.body.now.exit c.args.body.now.labels.items ls c.args.after (view.statement c.args.first.now)
+    c.args.next.assertion c.args.next.place (walked c.args.lowering.now) (walked c.plain_statement.new.lowering)))
+    c.deref-in_default.ensures.value c.plain_statement.ensures.added
