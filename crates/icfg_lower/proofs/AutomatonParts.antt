@@ -1,8 +1,9 @@
 -- The parts of a program's graph, once they are lowered.
-use Rattle.std.proofs.Common.{◌≡◌, ℕ, Bool, ◌+◌, ◌<◌, List, [], ◌∷◌, map, length, Option, Result, Ok, IfOk, refl, sym, ap, subst, arith}
+use Rattle.std.proofs.Common.{◌≡◌, ℕ, zero, suc, Bool, ◌+◌, ◌<◌, ◌≤◌, List, [], ◌∷◌, ◌++◌, map, length, drop, get_or, Option, Result, Ok, IfOk, refl, sym, ◌∙◌, ap, subst, append-nil, append_assoc, drop-cons, arith}
+use Rattle.std.specs.Prelude.{OnOk}
 use Rattle.std.specs.List.{AllByRecursion}
 use Rattle.std.proofs.lemmas.List.{length-map}
-use Rattle.typed_tree.specs.TypedTree.{TypedProgram}
+use Rattle.typed_tree.specs.TypedTree.{TypedProcedure, TypedProgram}
 use Rattle.nwa_base.specs.declared.letters.Kind.{Kind}
 use Rattle.nwa_base.specs.declared.letters.Letter.{Letter}
 use Rattle.nwa_base.specs.Automata.{Automaton, IsEdge, IsBackEdge}
@@ -13,7 +14,8 @@ use Rattle.letter_acts.specs.Frames.{Columns}
 use Rattle.letter_acts.specs.Invariant.{Graph, site_places}
 use Rattle.letter_acts.specs.LetterTable.Letters.{Lettered, lettered, marked_acts}
 use Rattle.lowered_graph.specs.Arcs.{first_error, program_arcs}
-use Rattle.lowered_graph.specs.Lowered.{program_sites, lowered}
+use Rattle.lowered_graph.specs.Lowered.{counted_procs, program_sites, lowered}
+use Rattle.icfg_lower.proofs.BodyEnds.{from_number}
 
 pub made_ok : {A E : Type 0} (r : Result A E) (x : A) (P : A → Type 0) → r ≡ Ok x → IfOk r P → P x
 made_ok {A} {E} r x P e h = subst (λ (z : Result A E). IfOk z P) e h
@@ -21,6 +23,29 @@ made_ok {A} {E} r x P e h = subst (λ (z : Result A E). IfOk z P) e h
 pub if_ok_so : {A E : Type 0} (P Q : A → Type 0) (r : Result A E) → ((x : A) → P x → Q x) → IfOk r P → IfOk r Q
 if_ok_so P Q (Ok x) f h = f x h
 if_ok_so P Q r f h = h
+
+pub on_made : {A E : Type 0} (r : Result A E) (x : A) (P : Type 0) → r ≡ Ok x → OnOk r P → P
+on_made {A} {E} r x P e h = subst (λ (z : Result A E). OnOk z P) e h
+
+-- ---- edges that are added one after another
+
+pub one_added : {X : Type 0} (xs : List X) (i : ℕ) (d : X) (before after all : List X) → i < length xs → after ≡ before ++ get_or xs i d ∷ [] → before ++ drop i xs ≡ all → after ++ drop (i + 1) xs ≡ all
+one_added xs i d before after all l e h =
+    let s : suc i ≡ i + 1 = omega arith in
+    (λ j. e j ++ drop (i + 1) xs) ∙ append_assoc before (get_or xs i d ∷ []) (drop (i + 1) xs) ∙ (λ j. before ++ (get_or xs i d ∷ drop (sym s j) xs)) ∙ (λ j. before ++ sym (drop-cons xs i d l) j) ∙ h
+
+pub drop_past : {X : Type 0} (xs : List X) (i : ℕ) → length xs ≤ i → drop i xs ≡ []
+drop_past [] zero l = refl
+drop_past [] (suc i) l = refl
+drop_past (x ∷ xs) zero l = absurd (omega (arith, l))
+drop_past (x ∷ xs) (suc i) l = drop_past xs i (omega (arith, l))
+
+pub all_added : {X : Type 0} (xs : List X) (i : ℕ) (before all : List X) → length xs ≤ i → before ++ drop i xs ≡ all → before ≡ all
+all_added xs i before all l h = sym (append-nil before) ∙ (λ j. before ++ sym (drop_past xs i l) j) ∙ h
+
+-- procedures that are numbered one after another
+pub all_numbered : {X : Type 0} (t : TypedProgram) (f : ℕ × TypedProcedure → X) (n k : ℕ) (old all : List X) → k ≡ length t.procs → k ≤ n → old ++ map f (from_number t n) ≡ all → old ≡ all
+all_numbered t f n k old all e l h = sym (append-nil old) ∙ (λ j. old ++ map f (counted_procs n (sym (drop_past t.procs n (omega (arith, e, l))) j))) ∙ h
 
 -- ---- places and edges
 

@@ -1,4 +1,4 @@
-use Rattle.std.proofs.Common.{◌≡◌, ◌∙◌, ℕ, zero, suc, ◌+◌, List, [], ◌∷◌, ◌++◌, replicate, refl, sym, ap, arith, append_assoc}
+use Rattle.std.proofs.Common.{◌≡◌, ◌∙◌, ℕ, zero, suc, ◌+◌, List, [], ◌∷◌, ◌++◌, replicate, refl, ap, arith, append_assoc}
 use Rattle.icfg_lower.proofs.building.add_owner.Goals as goal
 
 one_more : (n x : ℕ) → replicate n x ++ x ∷ [] ≡ replicate (n + 1) x

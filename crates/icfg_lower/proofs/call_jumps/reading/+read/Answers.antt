@@ -1,7 +1,7 @@
 use Rattle.std.proofs.Common.{◌≡◌, true, sym, ap, subst, ◌∙◌}
 use Rattle.std.specs.Prelude.{IfOk}
 use Rattle.boogie_tree.specs.declared.tree.Column.{Column}
-use Rattle.typed_tree.specs.TypedTree.{TypedExpression}
+use Rattle.typed_tree.specs.TypedTree.{TypedExpression, Not, Neg}
 use Rattle.typed_tree.specs.TypedView.{expression, kind_view}
 use Rattle.icfg_lower.specs.CallJumps.Ties.Reading.{Stand, is_truth_by, read_by, rebuilt}
 use Rattle.icfg_lower.specs.CallJumps.Ties.Stands.{stands_of}
@@ -33,3 +33,19 @@ returns-in_ok-y-in-Bin t c =
     let P : TypedExpression → Type 0 = λ d. IfOk c.rebuilt.result (λ e. expression e ≡ read_by s c.args.old d) in
     let Q : TypedExpression → Type 0 = λ d. IfOk c.rebuilt.result (λ e. expression e ≡ d) in
     subst P (sym (ap (kind_view c.args.expr.now.span) c.in-Bin.is)) (subst Q (λ j. rebuilt c.args.expr.now.span c.in-Bin.op (k j) (l j) (r j) (x j) (y j)) c.rebuilt.ensures)
+
+pub returns-in_ok-read-in-Not : goal.returns-in_ok-read-in-Not
+returns-in_ok-read-in-Not t c =
+    let s : Column → Stand = stands_of c.args.reader.now in
+    let P : TypedExpression → Type 0 = λ d. IfOk c.negation.result (λ e. expression e ≡ read_by s c.args.old d) in
+    let Q : TypedExpression → Type 0 = λ d. IfOk c.negation.result (λ e. expression e ≡ d) in
+    subst P (sym (ap (kind_view c.args.expr.now.span) c.in-Not.is))
+    (subst Q (ap (Not c.args.expr.now.span) (c.in_ok-read-in-Not.ensures ∙ ap (λ (d : TypedExpression). read_by s c.args.old d) (ap expression c.deref-in-Not.ensures))) c.negation.ensures)
+
+pub returns-in_ok-read-in-Neg : goal.returns-in_ok-read-in-Neg
+returns-in_ok-read-in-Neg t c =
+    let s : Column → Stand = stands_of c.args.reader.now in
+    let P : TypedExpression → Type 0 = λ d. IfOk c.negative.result (λ e. expression e ≡ read_by s c.args.old d) in
+    let Q : TypedExpression → Type 0 = λ d. IfOk c.negative.result (λ e. expression e ≡ d) in
+    subst P (sym (ap (kind_view c.args.expr.now.span) c.in-Neg.is))
+    (subst Q (ap (Neg c.args.expr.now.span) (c.in_ok-read-in-Neg.ensures ∙ ap (λ (d : TypedExpression). read_by s c.args.old d) (ap expression c.deref-in-Neg.ensures))) c.negative.ensures)

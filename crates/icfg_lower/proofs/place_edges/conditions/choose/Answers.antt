@@ -1,4 +1,4 @@
-use Rattle.std.proofs.Common.{◌≡◌, ℕ, ◌+◌, length, sym, subst}
+use Rattle.std.proofs.Common.{ℕ, ◌+◌, length, sym, subst}
 use Rattle.letter_acts.specs.Frames.{Columns}
 use Rattle.typed_tree.specs.TypedTree.{TypedExpression, TypedProgram}
 use Rattle.typed_tree.specs.TypedView.{expression}

@@ -1,4 +1,4 @@
-use Rattle.std.proofs.Common.{◌≡◌, ◌+◌, ◌<◌, ◌^◌, ℕ, List, Option, map, ap, sym, subst, arith}
+use Rattle.std.proofs.Common.{◌+◌, ◌<◌, ◌^◌, List, Option, map, ap, sym, subst, arith}
 use Rattle.std.specs.Option.{option_map}
 use Rattle.typed_tree.specs.declared.types.TStmt.{TStmt}
 use Rattle.typed_tree.specs.declared.types.TSpec.{TSpec}

@@ -1,4 +1,4 @@
-use Rattle.std.proofs.Common.{◌≡◌, ◌∙◌, ◌≤◌, Some, sym, ap, map, length, arith, IsTrue, List, subst}
+use Rattle.std.proofs.Common.{◌≡◌, ◌∙◌, ◌≤◌, Some, sym, ap, map, length, arith, List, subst}
 use Rattle.std.specs.Prelude.{slice_get}
 use Rattle.std.proofs.lemmas.List.{length-map}
 use Rattle.typed_tree.specs.TypedView as view
@@ -8,8 +8,7 @@ use Rattle.icfg_lower.proofs.ProgramWalk.LoopSteps.{seen_at, member_fits}
 use Rattle.icfg_lower.proofs.ProgramWalk.StartSteps.{entry_found, plain_room, plain_counted, said_starts, requires_end}
 use Rattle.icfg_lower.proofs.ProgramWalk.ReadForms.{specifications_fit}
 use Rattle.icfg_lower.specs.PlaceEdges.Forms.{SpecificationFits, SpecificationsFit}
-use Rattle.typed_tree.specs.TypingRules.ValidProgram.{is_valid}
-use Rattle.typed_tree.specs.TypedTree.{TypedProcedure, TypedProgram, TypedSpecification}
+use Rattle.typed_tree.specs.TypedTree.{TypedProcedure, TypedSpecification}
 use Rattle.icfg_lower.proofs.program_walk.starting.entry_requires.Goals as goal
 
 pub start_said-requires-clause-fit : goal.start_said-requires-clause-fit
