@@ -29,5 +29,6 @@ pub mod PathTraces
 pub mod ToldChoices
 mod LinesRead
 mod LastTurns
+mod ChoicesAdded
 mod ChosenSoFar
 mod ActsRead
