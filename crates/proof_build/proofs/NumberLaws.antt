@@ -4,13 +4,15 @@ use Rattle.std.specs.Prelude.{slice_get, is_some, Result, Ok, Err, OnOk}
 use Rattle.std.specs.declared.alloc.AllocError.{AllocError}
 use Rattle.nwa_base.specs.Members.{Member}
 use Rattle.std.specs.List.{AllByRecursion}
-use Rattle.letter_acts.specs.Acts.{frame_of}
+use Rattle.letter_acts.specs.Acts.{PlainAct, inside_act, call_act, back_act, Alphabet, frame_of}
 use Rattle.letter_acts.specs.Invariant.{Graph, alphabet_of}
 use Rattle.triple_rows.specs.declared.predicates.PredNode.{PredNode}
 use Rattle.triple_rows.specs.declared.predicates.PredNode.TheVariants.{Truth}
 use Rattle.triple_rows.specs.declared.triples.Scoped.{Scoped}
+use Rattle.triple_rows.specs.declared.triples.Triple.{Triple}
+use Rattle.triple_rows.specs.declared.triples.Triple.TheVariants.{Inside, Call, Back}
 use Rattle.triple_rows.specs.Predicates.{Formula, truth, atom, and_of, or_of, formula_of, IsTruth, IsOver}
-use Rattle.triple_rows.specs.Triples.{truth_of}
+use Rattle.triple_rows.specs.Triples.{truth_of, IsScoped, InsideAgrees, CallAgrees, ReturnAgrees, BackAgrees, Agrees}
 use Rattle.triple_rows.specs.Proofs.{PlainProof}
 use Rattle.triple_rows.proofs.ListLaws.{within}
 use Rattle.itp_automaton.specs.Certified.{Certificate}
@@ -166,3 +168,50 @@ three_numbered g first mid new a b d named (Err f) n p q m k e = tt
 pub none_is : (o : Option ℕ) → is_some o ≡ false → o ≡ None
 none_is None e = refl
 none_is (Some k) e = absurd (cc)
+
+pub more_then : (g : Graph) (old mid new : List Scoped) (r : Result (Unit {0}) AllocError) → ListsMore g old mid → OnOk r (ListsMore g mid new) → OnOk r (ListsMore g old new)
+more_then g old mid new (Ok x) m k = more_on g old mid new m k
+more_then g old mid new (Err f) m k = tt
+
+pub more_twice : (g : Graph) (old first mid new : List Scoped) (r : Result (Unit {0}) AllocError) → ListsMore g old first → ListsMore g first mid → OnOk r (ListsMore g mid new) → OnOk r (ListsMore g old new)
+more_twice g old first mid new r m n k = more_then g old mid new r (more_on g old first mid m n) k
+
+-- ---- the predicates of a triple that agrees are over their frames
+
+abbrev IsOverFrame : Alphabet → Scoped → Type 0
+IsOverFrame al s = IsOver (length (frame_of al s.proc)) (formula_of s.pred)
+
+scope_over : (al : Alphabet) (p : ℕ) (s : Scoped) → IsScoped al p s → IsOverFrame al s
+scope_over al p s h = subst (λ (q : ℕ). IsOver (length (frame_of al q)) (formula_of s.pred)) (sym h.proc) h.over
+
+inside_over : (al : Alphabet) (o : Option PlainAct) (a b : Scoped) → InsideAgrees al o a b → AllByRecursion (IsOverFrame al) (a ∷ b ∷ [])
+inside_over al None a b h = absurd h
+inside_over al (Some (inside_act p written helpers rows)) a b h = (scope_over al p a h.0, (scope_over al p b h.1, tt))
+inside_over al (Some (call_act caller callee helpers rows)) a b h = absurd h
+inside_over al (Some (back_act c targets)) a b h = absurd h
+
+call_over : (al : Alphabet) (o : Option PlainAct) (a b : Scoped) → CallAgrees al o a b → AllByRecursion (IsOverFrame al) (a ∷ b ∷ [])
+call_over al None a b h = absurd h
+call_over al (Some (inside_act p written helpers rows)) a b h = absurd h
+call_over al (Some (call_act caller callee helpers rows)) a b h = (scope_over al caller a h.0, (scope_over al callee b h.1, tt))
+call_over al (Some (back_act c targets)) a b h = absurd h
+
+return_over : (al : Alphabet) (o : Option PlainAct) (a b d : Scoped) → ReturnAgrees al o a b d → AllByRecursion (IsOverFrame al) (a ∷ b ∷ d ∷ [])
+return_over al None a b d h = absurd h
+return_over al (Some (inside_act p written helpers rows)) a b d h = absurd h
+return_over al (Some (call_act caller callee helpers rows)) a b d h = (scope_over al callee a h.0, (scope_over al caller b h.1, (scope_over al caller d h.2, tt)))
+return_over al (Some (back_act c targets)) a b d h = absurd h
+
+back_over : (al : Alphabet) (o : Option PlainAct) (a b d : Scoped) → BackAgrees al o a b d → AllByRecursion (IsOverFrame al) (a ∷ b ∷ d ∷ [])
+back_over al None a b d h = absurd h
+back_over al (Some (inside_act p written helpers rows)) a b d h = absurd h
+back_over al (Some (call_act caller callee helpers rows)) a b d h = absurd h
+back_over al (Some (back_act c targets)) a b d h = return_over al (slice_get al.acts c) a b d h
+
+all_over : (al : Alphabet) (t : Triple) → Agrees al t → AllByRecursion (IsOverFrame al) (named_in t)
+all_over al (Inside from letter to) h = inside_over al (slice_get al.acts letter) from to h
+all_over al (Call from letter to) h = call_over al (slice_get al.acts letter) from to h
+all_over al (Back exit before letter to) h = back_over al (slice_get al.acts letter) exit before to h
+
+pub named_over : (al : Alphabet) (t : Triple) (named : List Scoped) → Agrees al t → named_in t ≡ named → AllByRecursion (IsOverFrame al) named
+named_over al t named h e = subst (λ (l : List Scoped). AllByRecursion (IsOverFrame al) l) e (all_over al t h)

@@ -1,6 +1,6 @@
 -- The triples of proofs, by number: lines can show them, and none is shown by two numbers.
 use Rattle.std.proofs.Common.{◌≡◌, ◌∙◌, ℕ, List, [], ◌∷◌, ◌++◌, Option, None, Some, refl, sym, ap, subst, inl, inr, append_assoc}
-use Rattle.std.specs.Prelude.{Bool, true, false, slice_get}
+use Rattle.std.specs.Prelude.{Bool, true, false, slice_get, MatchOption}
 use Rattle.std.proofs.lemmas.List.{append-nil}
 use Rattle.std.specs.List.{AllByRecursion}
 use Rattle.std.specs.Option.{option_map}
@@ -334,3 +334,20 @@ none_call preds t from to l n e f h = at n (subst (λ (x : Triple). IsListedAs p
     at (Inside q k r) g = g
     at (Call q k r) g = f q r g.0 g.2
     at (Back q p k r) g = g
+
+-- the numbers of both predicates, as those of the triple
+both_numbers : (preds : List Scoped) (a b : Scoped) (o : Option (ℕ × ℕ)) (n : ℕ × ℕ) (N : Type 0) → o ≡ Some n → MatchOption o N (λ m. IsNumberOf preds a m.0 × IsNumberOf preds b m.1) →
+    IsNumberOf preds a n.0 × IsNumberOf preds b n.1
+both_numbers preds a b o n N k h = subst (λ (y : Option (ℕ × ℕ)). MatchOption y N (λ m. IsNumberOf preds a m.0 × IsNumberOf preds b m.1)) k h
+
+pub listed_inside : (preds : List Scoped) (t : Triple) (a b : Scoped) (l : ℕ) (o : Option (ℕ × ℕ)) (n : ℕ × ℕ) (N : Type 0) → t ≡ triples.Inside a l b → o ≡ Some n →
+    MatchOption o N (λ m. IsNumberOf preds a m.0 × IsNumberOf preds b m.1) → IsListedAs preds t (Inside n.0 l n.1)
+listed_inside preds t a b l o n N e k h =
+    let m : IsNumberOf preds a n.0 × IsNumberOf preds b n.1 = both_numbers preds a b o n N k h in
+    subst (λ (x : Triple). IsListedAs preds x (Inside n.0 l n.1)) (sym e) (m.0, refl, m.1)
+
+pub listed_call : (preds : List Scoped) (t : Triple) (a b : Scoped) (l : ℕ) (o : Option (ℕ × ℕ)) (n : ℕ × ℕ) (N : Type 0) → t ≡ triples.Call a l b → o ≡ Some n →
+    MatchOption o N (λ m. IsNumberOf preds a m.0 × IsNumberOf preds b m.1) → IsListedAs preds t (Call n.0 l n.1)
+listed_call preds t a b l o n N e k h =
+    let m : IsNumberOf preds a n.0 × IsNumberOf preds b n.1 = both_numbers preds a b o n N k h in
+    subst (λ (x : Triple). IsListedAs preds x (Call n.0 l n.1)) (sym e) (m.0, refl, m.1)

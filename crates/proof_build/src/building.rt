@@ -95,33 +95,13 @@ fn over_preds(
     ensures once { IfOk result (Says icfg.now AreOnce) }
 {
     let union = union_of(alloc, preds, automata)?;
-    over_union(alloc, icfg, automata, preds, &union)
-}
-
-/// The annotation over the union of the automata.
-fn over_union(
-    alloc: Global,
-    icfg: &Icfg,
-    automata: &[&Certified],
-    preds: &Predicates,
-    union: &Nwa,
-) -> Result<Annotation, AllocError>
-    requires certified { AllByRecursion (IsCertified (alphabet_of icfg.now)) (map (λ c. c.now) automata.now) }
-    requires covering { AreCovering icfg.now.automaton (map (λ c. c.now.automaton) automata.now) }
-    requires body { StartHasBody icfg.now }
-    requires listed { AreListed icfg.now preds.now }
-    requires numbered { AreAllNumbered icfg.now preds.now (map (λ c. c.now) automata.now) }
-    requires none { automata.now ≡ [] → preds.now ≡ [] }
-    requires union { IsUnionOf preds.now (map (λ c. c.now) automata.now) union.now }
-    ensures proves { IfOk result (Proves icfg.now) }
-    ensures none { IfOk result (λ a. automata.now ≡ [] → (a.preds ≡ []) × (a.triples ≡ [])) }
-    ensures reachable { IfOk result (Says icfg.now AreReachable) }
-    ensures ascend { IfOk result (Says icfg.now AreInOrder) }
-    ensures used { IfOk result (Says icfg.now AreUsed) }
-    ensures once { IfOk result (Says icfg.now AreOnce) }
-{
-    let unwound = unwound_by(alloc, icfg, union)?;
-    over_nodes(alloc, icfg, automata, preds, union, &unwound)
+    let Ok(unwound) = unwound_by(alloc, icfg, &union) else {
+        drop(union);
+        return Err(AllocError);
+    };
+    let built = over_nodes(alloc, icfg, automata, preds, &union, &unwound);
+    drop(union);
+    built
 }
 
 /// The annotation of the graph that is unwound.

@@ -107,7 +107,10 @@ fn begun(alloc: Global, preds: &Predicates) -> Result<Nwa, AllocError>
         _ => return Err(AllocError),
     };
     let mut union = added(empty(alloc, states, 0))?;
-    added(union.set_final(1))?;
+    let Ok(()) = added(union.set_final(1)) else {
+        drop(union);
+        return Err(AllocError);
+    };
     Ok(union)
 }
 
@@ -120,7 +123,10 @@ pub(crate) fn union_of(
     ensures { IfOk result (IsUnionOf preds.now (map (λ c. c.now) automata.now)) }
 {
     let mut union = begun(alloc, preds)?;
-    add_automata(alloc, preds, automata, &mut union)?;
+    let Ok(()) = add_automata(alloc, preds, automata, &mut union) else {
+        drop(union);
+        return Err(AllocError);
+    };
     Ok(union)
 }
 

@@ -160,7 +160,10 @@ fn moved_steps(alloc: Global, steps: &Nwa, ranks: &[u32]) -> Result<Nwa, AllocEr
     ensures { IfOk result (λ t. IsMoved (slice_index ranks.now) steps.now t) }
 {
     let mut moved = added(empty(alloc, steps.states(), steps.start()))?;
-    move_steps(&mut moved, steps, ranks)?;
+    let Ok(()) = move_steps(&mut moved, steps, ranks) else {
+        drop(moved);
+        return Err(AllocError);
+    };
     Ok(moved)
 }
 

@@ -4,7 +4,7 @@ use Rattle.proof_build.specs.ProofUnwind.Unwindings.{HasBack, node_place_in, ent
 use Rattle.proof_build.specs.ProofUnwind.Exploring.{Stage, GoesOn}
 use Rattle.proof_build.specs.ProofUnwind.Ties.Searches.{stage_of}
 use Rattle.proof_build.proofs.ProofUnwind.LoopLaws.{Followed, followed_none, followed_more, followed_all}
-use Rattle.proof_build.proofs.ProofUnwind.StageLaws.{goes_not, goes_on, open_stays, edge_between, each_between, back_kind, returned_stays, call_to_stays, caller, IsCaller}
+use Rattle.proof_build.proofs.ProofUnwind.StageLaws.{goes_not, goes_on, there_stays, open_stays, edge_between, each_between, back_kind, returned_stays, call_to_stays, caller, IsCaller}
 use Rattle.proof_build.proofs.proof_unwind.joining.join.Goals as goal
 use Rattle.proof_build.proofs.proof_unwind.joining.join.Goals.{then-letter-call+in_ok-back_step, else-letter-call}
 
@@ -95,3 +95,17 @@ returns c =
           (followed_all (GoesOn c.args.graph.now c.args.union.now) (λ u e. e.2.call ≡ c.args.call.id → HasBack u.steps.backs u.nodes c.args.exit c.args.before e.2 e.3) s t
           c.backs_between-letter-items.result.now c.loop-letter.letter-index (omega arith) c.loop-letter.invariant) a e i k,
     )
+
+pub back_step-requires-clause-exploring : goal.back_step-requires-clause-exploring
+back_step-requires-clause-exploring c = c.loop-letter.invariant.goes.exploring
+
+pub back_step-requires-clause-exit : goal.back_step-requires-clause-exit
+back_step-requires-clause-exit c =
+    there_stays (stage_of c.args.search.now) (stage_of c.loop-letter.search) c.args.exit c.loop-letter.invariant.goes.grows c.requires.there
+
+pub back_step-requires-clause-before : goal.back_step-requires-clause-before
+back_step-requires-clause-before c =
+    let s : Stage = stage_of c.args.search.now in
+    let p : IsCaller c.args.graph.now s c.args.before c.args.call =
+    caller c.args.graph.now c.args.union.now s c.args.before c.args.call (entry_of s.nodes c.args.exit) c.requires.graph c.requires.exploring c.requires.called in
+    there_stays s (stage_of c.loop-letter.search) c.args.before c.loop-letter.invariant.goes.grows p.there

@@ -54,3 +54,13 @@ returns c =
           c.loop-before.before-index (omega arith) c.loop-before.invariant (p, a, entry_of s.nodes c.args.exit)
           (subst (λ (l : List (ℕ × Letter × ℕ)). Member l (p, a, entry_of s.nodes c.args.exit)) (sym is) (does_enter (entry_of s.nodes c.args.exit) s.steps.calls p a i))).backs,
     )
+
+pub join-requires-clause-graph : goal.join-requires-clause-graph
+join-requires-clause-graph c = c.requires.graph
+
+pub join-requires-clause-exploring : goal.join-requires-clause-exploring
+join-requires-clause-exploring c = c.loop-before.invariant.goes.exploring
+
+pub join-requires-clause-there : goal.join-requires-clause-there
+join-requires-clause-there c =
+    there_stays (stage_of c.args.search.now) (stage_of c.loop-before.search) c.args.exit c.loop-before.invariant.goes.grows c.requires.there

@@ -34,3 +34,30 @@ returns c =
     on_ok c.join_before-2.result (GoesOn m b t u × AreReturned m (exits_of c.args.exits.now) t u c.args.number)
     (GoesOn m b s u × IsReturned m s u c.args.number × AreReturned m (exits_of c.args.exits.now) s u c.args.number)
     (λ g. returned_on m b (exits_of c.args.exits.now) c.args.number s t u c.requires.graph c.requires.exploring c.requires.there c.in_ok-join_exit.ensures g) c.join_before-2.ensures
+
+pub join_before-requires-clause-graph : goal.join_before-requires-clause-graph
+join_before-requires-clause-graph c = c.requires.graph
+
+pub join_before-requires-clause-exploring : goal.join_before-requires-clause-exploring
+join_before-requires-clause-exploring c = c.requires.exploring
+
+pub join_before-requires-clause-exits : goal.join_before-requires-clause-exits
+join_before-requires-clause-exits c = c.requires.exits
+
+pub join_exit-requires-clause-graph : goal.join_exit-requires-clause-graph
+join_exit-requires-clause-graph c = c.requires.graph
+
+pub join_exit-requires-clause-exploring : goal.join_exit-requires-clause-exploring
+join_exit-requires-clause-exploring c = c.requires.exploring
+
+pub join_exit-requires-clause-there : goal.join_exit-requires-clause-there
+join_exit-requires-clause-there c = c.requires.there
+
+pub join_exit-requires-clause-opens : goal.join_exit-requires-clause-opens
+join_exit-requires-clause-opens c = c.requires.opens
+
+pub join_before-requires-2-clause-graph : goal.join_before-requires-2-clause-graph
+join_before-requires-2-clause-graph c = c.requires.graph
+
+pub join_before-requires-2-clause-exploring : goal.join_before-requires-2-clause-exploring
+join_before-requires-2-clause-exploring c = c.in_ok-join_exit.ensures.0.exploring

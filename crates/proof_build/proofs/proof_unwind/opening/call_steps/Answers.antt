@@ -3,7 +3,7 @@ use Rattle.proof_build.specs.ProofUnwind.Unwindings.{HasStep, node_place_in}
 use Rattle.proof_build.specs.ProofUnwind.Exploring.{Stage, GoesOnFrom}
 use Rattle.proof_build.specs.ProofUnwind.Ties.Searches.{stage_of}
 use Rattle.proof_build.proofs.ProofUnwind.LoopLaws.{followed_none, followed_more, followed_all}
-use Rattle.proof_build.proofs.ProofUnwind.StageLaws.{from_not, from_on, open_stays, edge_from, each_from, call_kind, called_stays}
+use Rattle.proof_build.proofs.ProofUnwind.StageLaws.{from_not, from_on, there_stays, open_stays, edge_from, each_from, call_kind, called_stays}
 use Rattle.proof_build.proofs.proof_unwind.opening.call_steps.Goals as goal
 
 pub loop-letter-init : goal.loop-letter-init
@@ -45,3 +45,9 @@ returns c =
           (followed_all (GoesOnFrom c.args.graph.now c.args.union.now c.args.from) (λ u e. HasStep u.steps.calls u.nodes c.args.from e.1 e.2) s t
           c.calls_leaving-letter-items.result.now c.loop-letter.letter-index (omega arith) c.loop-letter.invariant),
     )
+
+pub call_step-requires-clause-exploring : goal.call_step-requires-clause-exploring
+call_step-requires-clause-exploring c = c.loop-letter.invariant.goes.exploring
+
+pub call_step-requires-clause-there : goal.call_step-requires-clause-there
+call_step-requires-clause-there c = there_stays (stage_of c.args.search.now) (stage_of c.loop-letter.search) c.args.from c.loop-letter.invariant.goes.grows c.requires.there
