@@ -1,7 +1,8 @@
 //! What the numbers of an annotation stand for, by the numbers of predicates that are found.
 
-ghost use Rattle.std.specs.Prelude.{◌≡◌};
+ghost use Rattle.std.specs.Prelude.{◌≡◌, if◌then◌else◌};
 ghost use Rattle.proof_form.specs.Lines as form;
+ghost use Rattle.proof_names.specs.Options.{both};
 ghost use Rattle.proof_reuse.specs.Ties.Numbers as spec;
 
 use proof_form::{Numeral, TripleLine};
@@ -26,27 +27,25 @@ fn number_of(numbers: &[Option<usize>], numeral: &Numeral) -> Option<usize>
     renumbered(numbers, index_in(numeral)?)
 }
 
-/// The source and the target of an inside triple.
-pub(crate) fn inside_pair(numbers: &[Option<usize>], line: &TripleLine) -> Option<(usize, usize)>
-    ensures { result ≡ spec.inside_pair numbers.now (form.triple line.now) }
+/// The source and the target, if both stand for something.
+fn ends(numbers: &[Option<usize>], from: &Numeral, to: &Numeral) -> Option<(usize, usize)>
+    ensures { result ≡ both (spec.number_of numbers.now from.now) (spec.number_of numbers.now to.now) }
 {
-    match line {
-        TripleLine::Inside { from, to, .. } => {
-            Some((number_of(numbers, from)?, number_of(numbers, to)?))
-        }
-        TripleLine::Call { .. } | TripleLine::Back { .. } => None,
-    }
+    Some((number_of(numbers, from)?, number_of(numbers, to)?))
 }
 
-/// The source and the target of a call triple.
-pub(crate) fn call_pair(numbers: &[Option<usize>], line: &TripleLine) -> Option<(usize, usize)>
-    ensures { result ≡ spec.call_pair numbers.now (form.triple line.now) }
+/// The source and the target of a call triple, or of an inside triple.
+pub(crate) fn pair_of(
+    is_call: bool,
+    numbers: &[Option<usize>],
+    line: &TripleLine,
+) -> Option<(usize, usize)>
+    ensures { result ≡ (if is_call then spec.call_pair else spec.inside_pair) numbers.now (form.triple line.now) }
 {
     match line {
-        TripleLine::Call { from, to, .. } => {
-            Some((number_of(numbers, from)?, number_of(numbers, to)?))
-        }
-        TripleLine::Inside { .. } | TripleLine::Back { .. } => None,
+        TripleLine::Call { from, to, .. } if is_call => ends(numbers, from, to),
+        TripleLine::Inside { from, to, .. } if !is_call => ends(numbers, from, to),
+        _ => None,
     }
 }
 

@@ -9,7 +9,7 @@ ghost use Rattle.proof_reuse.specs.Ties.Numbers as spec;
 ghost use Rattle.proof_reuse.specs.Ties.Views.{taken};
 
 use crate::founds::{Founds, founds_of};
-use crate::lines::{back_threes, call_pairs, inside_pairs};
+use crate::lines::{back_threes, pairs_of};
 use indexmap::IndexSet;
 use letter_acts::Icfg;
 use proof_form::{Annotation, TripleLine};
@@ -42,8 +42,8 @@ fn take_triples(
     ensures calls { OnOk result (SameMembers earlier.new.calls.keys (filter_map (spec.call_pair numbers.now) (map form.triple lines.now))) }
     ensures backs { OnOk result (SameMembers earlier.new.backs.keys (filter_map (spec.back_three numbers.now) (map form.triple lines.now))) }
 {
-    earlier.insides = inside_pairs(alloc, numbers, lines)?;
-    earlier.calls = call_pairs(alloc, numbers, lines)?;
+    earlier.insides = pairs_of(alloc, false, numbers, lines)?;
+    earlier.calls = pairs_of(alloc, true, numbers, lines)?;
     earlier.backs = back_threes(alloc, numbers, lines)?;
     Ok(())
 }

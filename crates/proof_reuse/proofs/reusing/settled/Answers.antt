@@ -1,4 +1,4 @@
-use Rattle.std.proofs.Common.{◌≡◌, List, sym, ap, subst}
+use Rattle.std.proofs.Common.{List, sym, ap, subst}
 use Rattle.triple_rows.specs.declared.triples.Scoped.{Scoped}
 use Rattle.proof_reuse.specs.Ties.Choices.{IsTakenFrom}
 use Rattle.proof_reuse.proofs.reusing.settled.Goals as goal

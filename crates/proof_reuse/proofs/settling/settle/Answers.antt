@@ -1,4 +1,4 @@
-use Rattle.std.proofs.Common.{◌≡◌, ◌∙◌, List, ap, subst}
+use Rattle.std.proofs.Common.{◌∙◌, List, ap, subst}
 use Rattle.std.specs.List.{AllZip}
 use Rattle.letter_acts.specs.Invariant.{alphabet_of}
 use Rattle.triple_rows.specs.declared.triples.Triple.{Triple}

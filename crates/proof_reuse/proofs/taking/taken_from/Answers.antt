@@ -1,4 +1,4 @@
-use Rattle.std.proofs.Common.{◌≡◌, List, ap, sym, subst}
+use Rattle.std.proofs.Common.{List, ap, sym, subst}
 use Rattle.triple_rows.specs.declared.triples.Scoped.{Scoped}
 use Rattle.proof_form.specs.Lines as form
 use Rattle.proof_reuse.specs.Ties.Numbers.{AreFound, inside_pair, call_pair, back_three}
