@@ -14,6 +14,13 @@ pub mod FrameLemmas
 pub mod FitLemmas
 pub mod ToldLemmas
 mod WriteSteps
+mod TopSteps
+mod ValueSteps
+mod BodySteps
+mod FirstSteps
+mod FoundSteps
+mod LeaveSteps
+mod PastSteps
 pub mod BoogiePoints
 pub mod BoogiePlaces
 pub mod RunDefaults

@@ -15,7 +15,6 @@ use boogie_tree::{Column, Span};
 use typed_tree::TExpr;
 
 /// An assertion under this number, at this place of the text.
-#[tactic(auto, using(crate::proofs::ToldLemmas::ways_told))]
 pub(crate) fn check(
     config: &mut Config<'_>,
     number: u32,
@@ -38,7 +37,6 @@ pub(crate) fn check(
 }
 
 /// An assumption.
-#[tactic(auto, using(crate::proofs::ToldLemmas::ways_told))]
 pub(crate) fn suppose(config: &mut Config<'_>, cond: &TExpr) -> Result<Moved, RunFault>
     requires fits { FitsProgram config.old.program.now config.old }
     requires here { told (happening config.old) ≡ Suppose (view.expression cond.now) }
@@ -53,7 +51,6 @@ pub(crate) fn suppose(config: &mut Config<'_>, cond: &TExpr) -> Result<Moved, Ru
 }
 
 /// A requires of a called procedure, over these arguments.
-#[tactic(auto, using(crate::proofs::ToldLemmas::ways_told))]
 pub(crate) fn demand(
     config: &mut Config<'_>,
     number: u32,
@@ -77,7 +74,7 @@ pub(crate) fn demand(
 }
 
 /// A parallel assignment.
-#[tactic(auto, using(crate::proofs::ToldLemmas::ways_told, crate::proofs::Going::all_written_after))]
+#[tactic(auto, using(crate::proofs::Going::all_written_after))]
 pub(crate) fn assign(
     config: &mut Config<'_>,
     targets: &[Column],
@@ -95,7 +92,7 @@ pub(crate) fn assign(
 }
 
 /// A chosen value for a column.
-#[tactic(auto, using(crate::proofs::ToldLemmas::ways_told, crate::proofs::Going::written_after))]
+#[tactic(auto, using(crate::proofs::Going::written_after))]
 pub(crate) fn guess(
     config: &mut Config<'_>,
     column: Column,
@@ -138,7 +135,6 @@ pub(crate) fn pick(config: &mut Config<'_>, ways: usize, chosen: i128) -> Result
 }
 
 /// On to another point.
-#[tactic(auto, using(crate::proofs::ToldLemmas::ways_told))]
 pub(crate) fn jump(config: &mut Config<'_>) -> Result<Moved, RunFault>
     requires fits { FitsProgram config.old.program.now config.old }
     requires here { told (happening config.old) ≡ Jump }

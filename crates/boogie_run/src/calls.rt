@@ -86,7 +86,6 @@ pub(crate) fn enter(config: &mut Config<'_>, callee: u32, args: &[TExpr]) -> Res
 }
 
 /// Of a call without body: keeps a chosen value.
-#[tactic(auto, using(crate::proofs::ToldLemmas::ways_told))]
 pub(crate) fn keep(
     config: &mut Config<'_>,
     callee: u32,
@@ -105,7 +104,6 @@ pub(crate) fn keep(
 }
 
 /// Of a call without body: assumes an ensures.
-#[tactic(auto, using(crate::proofs::ToldLemmas::ways_told))]
 pub(crate) fn grant(
     config: &mut Config<'_>,
     callee: u32,

@@ -218,7 +218,6 @@ pub(crate) fn passed_value(env: Env<'_>, args: &[TExpr], expr: &TExpr) -> Result
 }
 
 /// The values of expressions.
-#[tactic(auto, using(crate::proofs::Members::not_all))]
 pub(crate) fn all_values(
     alloc: Global,
     env: Env<'_>,
@@ -236,7 +235,6 @@ pub(crate) fn all_values(
 }
 
 /// Whether the values of the parts of expressions fit.
-#[tactic(auto, using(crate::proofs::Members::not_all))]
 pub(crate) fn all_fit(env: Env<'_>, exprs: &[TExpr]) -> Result<(), RunFault>
     ensures fit { IsOk result → AllFit (state env.entry) (map view.expression exprs.now) }
     ensures err { IfErr result (IsCause (AllFit (state env.entry) (map view.expression exprs.now))) }

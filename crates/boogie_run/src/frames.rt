@@ -55,7 +55,6 @@ pub(crate) fn go_keeping(config: &mut Config<'_>, way: usize) -> Result<(), Allo
 }
 
 /// Forgets what was kept.
-#[tactic(auto, using(crate::proofs::FrameLemmas::with_top, crate::proofs::FrameLemmas::top_is))]
 pub(crate) fn clear_kept(config: &mut Config<'_>)
     requires { FitsProgram config.old.program.now config.old }
     ensures value { config_of config.new ≡ record (config_of config.old) { top = record (config_of config.old).top { kept = [] } } }
@@ -102,7 +101,6 @@ pub(crate) fn go_with(config: &mut Config<'_>, value: i128, way: usize) -> Resul
 }
 
 /// What was kept, which is then forgotten.
-#[tactic(auto, using(crate::proofs::FrameLemmas::with_top, crate::proofs::FrameLemmas::top_is))]
 pub(crate) fn take_kept(config: &mut Config<'_>) -> Vec<i128>
     requires { FitsProgram config.old.program.now config.old }
     ensures kept { result.items ≡ (config_of config.old).top.kept }

@@ -78,42 +78,10 @@ fn count(action: &Action<'_>) -> usize
     ensures { result ≡ way_count (action_view action.now) }
 {
     match action {
-        Action::Test { cond: _ } => 2,
+        Action::Test { .. } => 2,
         Action::Pick { ways } => *ways,
-        Action::Enter { callee: _, args: _ } | Action::Leave => 0,
-        Action::Check {
-            number: _,
-            span: _,
-            cond: _,
-        }
-        | Action::Suppose { cond: _ } => 1,
-        Action::Demand {
-            number: _,
-            span: _,
-            cond: _,
-            args: _,
-        } => 1,
-        Action::Write {
-            targets: _,
-            values: _,
-        }
-        | Action::Guess { column: _ } => 1,
-        Action::Keep {
-            callee: _,
-            args: _,
-            column: _,
-        } => 1,
-        Action::Grant {
-            callee: _,
-            args: _,
-            cond: _,
-        } => 1,
-        Action::Finish {
-            callee: _,
-            args: _,
-            targets: _,
-        }
-        | Action::Jump => 1,
+        Action::Enter { .. } | Action::Leave => 0,
+        _ => 1,
     }
 }
 

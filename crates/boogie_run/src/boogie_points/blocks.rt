@@ -108,13 +108,7 @@ pub(crate) fn past<'a>(
 fn is_a_label(statement: &TStmt) -> bool
     ensures { result ≡ is_label (view.statement statement.now) }
 {
-    match statement {
-        TStmt::Label(_) => true,
-        TStmt::Assert(_, _) | TStmt::Assume(_, _) | TStmt::Havoc(_, _) => false,
-        TStmt::Assign(_, _, _) | TStmt::Call(_, _, _, _) => false,
-        TStmt::If(_, _, _, _) | TStmt::While(_, _, _, _) => false,
-        TStmt::Break(_, _) | TStmt::Goto(_, _) | TStmt::Return(_) => false,
-    }
+    matches!(statement, TStmt::Label(_))
 }
 
 /// What is left of a block without the labels at its front, which take no step.

@@ -79,8 +79,7 @@ pub fn assertions(procs: &[TProc], counted: &TStmt) -> u32
             let head = plain_count(conditions);
             head + block_assertions(procs, body)
         }
-        TStmt::Assume(_, _) | TStmt::Havoc(_, _) | TStmt::Assign(_, _, _) => 0,
-        TStmt::Break(_, _) | TStmt::Goto(_, _) | TStmt::Return(_) | TStmt::Label(_) => 0,
+        _ => 0,
     }
 }
 
@@ -115,8 +114,7 @@ pub fn points(procs: &[TProc], counted: &TStmt) -> u32
             head + (1 + block_points(procs, body))
         }
         TStmt::Label(_) => 0,
-        TStmt::Assert(_, _) | TStmt::Assume(_, _) | TStmt::Assign(_, _, _) => 1,
-        TStmt::Break(_, _) | TStmt::Goto(_, _) | TStmt::Return(_) => 1,
+        _ => 1,
     }
 }
 

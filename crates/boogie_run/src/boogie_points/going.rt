@@ -207,42 +207,10 @@ fn jump<'a>(
 fn is_item(action: &Action<'_>) -> bool
     ensures { result ≡ tell.is_item (action_view action.now) }
 {
-    match action {
-        Action::Demand {
-            number: _,
-            span: _,
-            cond: _,
-            args: _,
-        } => true,
-        Action::Keep {
-            callee: _,
-            args: _,
-            column: _,
-        } => true,
-        Action::Grant {
-            callee: _,
-            args: _,
-            cond: _,
-        } => true,
-        Action::Check {
-            number: _,
-            span: _,
-            cond: _,
-        } => false,
-        Action::Suppose { cond: _ } | Action::Test { cond: _ } => false,
-        Action::Write {
-            targets: _,
-            values: _,
-        } => false,
-        Action::Guess { column: _ } | Action::Pick { ways: _ } => false,
-        Action::Enter { callee: _, args: _ } => false,
-        Action::Finish {
-            callee: _,
-            args: _,
-            targets: _,
-        } => false,
-        Action::Jump | Action::Leave => false,
-    }
+    matches!(
+        action,
+        Action::Demand { .. } | Action::Keep { .. } | Action::Grant { .. }
+    )
 }
 
 /// On from one variable of a havoc of so many.

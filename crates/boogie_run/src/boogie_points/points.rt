@@ -14,7 +14,7 @@ use typed_tree::typing_rules::Typed;
 use typed_tree::{TProc, TStmt};
 
 /// The stages of a procedure.
-#[derive(Clone, Copy, Debug, PartialEq, Eq)]
+#[derive(Clone, Copy)]
 pub enum Stage {
     /// The start of a run: the axioms and the plain requires of the entry.
     Start,

@@ -159,9 +159,7 @@ fn seek_in<'a>(
             let inner = loop_marks(id, at, conditions);
             seek_under(procs, todo, here, body, inner, label)
         }
-        TStmt::Assert(_, _) | TStmt::Assume(_, _) | TStmt::Havoc(_, _) => Ok(false),
-        TStmt::Assign(_, _, _) | TStmt::Call(_, _, _, _) => Ok(false),
-        TStmt::Break(_, _) | TStmt::Goto(_, _) | TStmt::Return(_) => Ok(false),
+        _ => Ok(false),
     }
 }
 

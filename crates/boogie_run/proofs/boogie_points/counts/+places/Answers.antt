@@ -1,8 +1,10 @@
-use Rattle.std.proofs.Common.{◌+◌, List, map, refl, ap, sym, ◌∙◌}
+use Rattle.std.proofs.Common.{◌+◌, ◌<◌, ◌^◌, ◌≡◌, List, map, length, refl, ap, sym, subst, ◌∙◌, arith}
+use Rattle.std.proofs.lemmas.List.{length-map}
 use Rattle.typed_tree.specs.declared.types.TStmt.{TStmt}
+use Rattle.typed_tree.specs.TypedTree.{TypedStatement}
 use Rattle.typed_tree.specs.TypedView as view
 use Rattle.typed_tree.specs.TypingRules.Counts.{points, block_points}
-use Rattle.boogie_run.proofs.BoogiePoints.SeekLaws.{if_seen}
+use Rattle.boogie_run.proofs.BoogiePoints.SeekLaws.{if_seen, while_seen}
 use Rattle.boogie_run.proofs.BoogiePoints.CountSteps.{counted_more, counted_all}
 use Rattle.boogie_run.proofs.boogie_points.counts.+places.Goals as goal
 
@@ -19,3 +21,25 @@ pub points-returns-in-If : goal.points-returns-in-If
 points-returns-in-If t c =
     (λ i. 1 + ((c.block_points-inner.ensures ∙ ap (λ (ss : List TStmt). block_points (map view.procedure c.args.procs.now) (view.statements ss)) c.deref.ensures.value) i + (c.block_points.ensures ∙ ap (λ (ss : List TStmt). block_points (map view.procedure c.args.procs.now) (view.statements ss)) c.deref-in-If.ensures.value) i))
     ∙ ap (points (map view.procedure c.args.procs.now)) (sym (ap view.statement c.in-If.is ∙ if_seen c.in-If.field-0 c.in-If.field-1 c.in-If.then c.in-If.otherwise))
+
+pub points-overflow_add-result-in-If : goal.points-overflow_add-result-in-If
+points-overflow_add-result-in-If t c =
+    let procs = map view.procedure c.args.procs.now in
+    let whole = subst (λ (s : TypedStatement). points procs s < 2 ^ 32) (ap view.statement c.in-If.is ∙ if_seen c.in-If.field-0 c.in-If.field-1 c.in-If.then c.in-If.otherwise) c.requires in
+    let first = c.block_points-inner.ensures ∙ ap (λ (ss : List TStmt). block_points procs (view.statements ss)) c.deref.ensures.value in
+    let second = c.block_points.ensures ∙ ap (λ (ss : List TStmt). block_points procs (view.statements ss)) c.deref-in-If.ensures.value in
+    omega (arith, whole, first, second)
+
+pub points-overflow_add-result-in-If-2 : goal.points-overflow_add-result-in-If-2
+points-overflow_add-result-in-If-2 t c =
+    let procs = map view.procedure c.args.procs.now in
+    let whole = subst (λ (s : TypedStatement). points procs s < 2 ^ 32) (ap view.statement c.in-If.is ∙ if_seen c.in-If.field-0 c.in-If.field-1 c.in-If.then c.in-If.otherwise) c.requires in
+    let first = c.block_points-inner.ensures ∙ ap (λ (ss : List TStmt). block_points procs (view.statements ss)) c.deref.ensures.value in
+    let second = c.block_points.ensures ∙ ap (λ (ss : List TStmt). block_points procs (view.statements ss)) c.deref-in-If.ensures.value in
+    omega (arith, whole, first, second)
+
+pub points-returns-in-While : goal.points-returns-in-While
+points-returns-in-While t c =
+    let head : c.len-head.result ≡ length (map view.invariant c.in-While.conditions.items) = omega (arith, c.len-head.ensures, length-map c.in-While.conditions.items view.invariant) in
+    (λ i. head i + (1 + (c.block_points-in-While.ensures ∙ ap (λ (ss : List TStmt). block_points (map view.procedure c.args.procs.now) (view.statements ss)) c.deref-in-While.ensures.value) i))
+    ∙ ap (points (map view.procedure c.args.procs.now)) (sym (ap view.statement c.in-While.is ∙ while_seen c.in-While.field-0 c.in-While.field-1 c.in-While.conditions c.in-While.body))
