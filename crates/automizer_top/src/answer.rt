@@ -1,4 +1,5 @@
 ghost use Rattle.std.specs.Prelude.{◌≡◌, [], ◌∷◌, IfOk};
+ghost use Rattle.text_reports.specs.Answers.{answer_of};
 ghost use Rattle.automizer_top.specs.Ties.Answers.{answered};
 ghost use Rattle.automizer_top.specs.Verdicts.{verdict_status};
 
@@ -53,25 +54,31 @@ impl Answer {
             Answer::Usage => String::from_str(
                 alloc,
                 "usage: automizer MODE PROGRAM [SECOND] [--entry NAME] [--rounds N] [--workers N] [--depth N] [--modular] [--reuse OLD]\n",
-            )?,
-            Answer::OnText(answer) => return Ok((answer.text(alloc)?, Vec::new(alloc))),
-            Answer::Free(at) => rule_line(alloc, "Free", at)?,
+            ),
+            Answer::OnText(answer) => return on_text(alloc, answer),
+            Answer::Free(at) => rule_line(alloc, "Free", at),
             Answer::Ranking(text) => return Ok((text, Vec::new(alloc))),
-            Answer::NoRanking => String::from_str(alloc, "unknown ranking\n")?,
-            Answer::NoNumber => String::from_str(alloc, "unknown number\n")?,
+            Answer::NoRanking => String::from_str(alloc, "unknown ranking\n"),
+            Answer::NoNumber => String::from_str(alloc, "unknown number\n"),
             Answer::Decided {
                 text,
-                verdict: _,
+                verdict,
                 race,
-            } => return Ok((text, only(alloc, race)?)),
+            } => {
+                drop(verdict);
+                return with_race(alloc, text, race);
+            }
             Answer::PartsDecided { text, races } => return Ok((text, races)),
             Answer::PartDecided {
                 text,
-                verdict: _,
+                verdict,
                 races,
-            } => return Ok((text, races)),
+            } => {
+                drop(verdict);
+                return Ok((text, races));
+            }
         };
-        Ok((line.into_bytes(), Vec::new(alloc)))
+        Ok((line?.into_bytes(), Vec::new(alloc)))
     }
 
     /// The status of the program.
@@ -90,13 +97,29 @@ impl Answer {
     }
 }
 
-/// A list of one race.
-fn only(alloc: Global, race: Shared<Certified>) -> Result<Vec<Shared<Certified>>, AllocError>
-    ensures { IfOk result (λ races. races.items ≡ race ∷ []) }
+/// The bytes of what is answered to a text, and no race.
+fn on_text(
+    alloc: Global,
+    answer: TextAnswer,
+) -> Result<(Vec<u8>, Vec<Shared<Certified>>), AllocError>
+    ensures text { IfOk result (λ output. output.0.items ≡ (answer_of answer).bytes) }
+    ensures races { IfOk result (λ output. output.1.items ≡ []) }
+{
+    Ok((answer.text(alloc)?, Vec::new(alloc)))
+}
+
+/// These bytes, and this race alone.
+fn with_race(
+    alloc: Global,
+    text: Vec<u8>,
+    race: Shared<Certified>,
+) -> Result<(Vec<u8>, Vec<Shared<Certified>>), AllocError>
+    ensures text { IfOk result (λ output. output.0.items ≡ text.items) }
+    ensures races { IfOk result (λ output. output.1.items ≡ race ∷ []) }
 {
     let mut races = Vec::new(alloc);
     races.push(race)?;
-    Ok(races)
+    Ok((text, races))
 }
 
 /// The status of a verdict.

@@ -47,7 +47,11 @@ fn entry_of<R: Threads + Sync>(
         }
         Err(ProofFault::Memory) => return Err(AllocError),
     };
-    let reused = reuse(rt, alloc, icfg, &old)?;
+    let Ok(reused) = reuse(rt, alloc, icfg, &old) else {
+        drop(old);
+        return Err(AllocError);
+    };
+    drop(old);
     Ok(Ok(first(alloc, icfg, reused)?))
 }
 
@@ -127,9 +131,19 @@ pub(crate) fn verified<R: Threads + Wait + Sync, H: Shelf, G: Gate + Sync>(
         Ok(program) => program,
         Err(answer) => return Ok(Answer::OnText(answer)),
     };
-    let icfg = match graph(alloc, &program)? {
-        Ok(icfg) => icfg,
-        Err(answer) => return Ok(Answer::OnText(answer)),
+    let Ok(made) = graph(alloc, &program) else {
+        drop(program);
+        return Err(Halt::Memory);
     };
-    decided_within(rt, alloc, shelf, &program, &icfg, old, options.limits, gate)
+    let icfg = match made {
+        Ok(icfg) => icfg,
+        Err(answer) => {
+            drop(program);
+            return Ok(Answer::OnText(answer));
+        }
+    };
+    let answer = decided_within(rt, alloc, shelf, &program, &icfg, old, options.limits, gate);
+    drop(icfg);
+    drop(program);
+    answer
 }

@@ -12,6 +12,7 @@ ghost use Rattle.automizer_top.specs.GeneratedProgram.Generated.{generated};
 ghost use Rattle.text_reports.specs.Answers.{IsGraphOf, HasNoErrorWord};
 ghost use Rattle.automizer_top.specs.Ties.Answers.{answered, VerdictProves};
 ghost use Rattle.automizer_top.specs.Report.{ReportsBig};
+ghost use Rattle.automizer_top.specs.Summary.{summary_text};
 ghost use Rattle.automizer_top.specs.Verdicts.{verdict_status};
 
 use crate::answer::Answer;
@@ -93,6 +94,22 @@ fn confirm(alloc: Global, icfg: &Icfg, verdict: &Verdict) -> Result<(), AllocErr
     }
 }
 
+/// The summary of a verdict, of which the annotation, where it has one, is checked first.
+fn confirmed_summary(
+    alloc: Global,
+    icfg: &Icfg,
+    count: u32,
+    verdict: &Verdict,
+) -> Result<Vec<u8>, AllocError>
+    requires verdict { VerdictProves icfg.now verdict.now }
+    requires count { count ≤ 200 }
+    ensures text { IfOk result (λ text. text.items ≡ summary_text count verdict.now) }
+    ensures safe { IfOk result (λ text. verdict_status verdict.now ≡ 0 → HasNoErrorWord icfg.now) }
+{
+    confirm(alloc, icfg, verdict)?;
+    summary(alloc, count, verdict)
+}
+
 /// The summary of the verdict on the generated program by a race over its graph.
 fn decided<R: Threads + Wait + Sync, G: Gate + Sync>(
     rt: &R,
@@ -111,9 +128,15 @@ fn decided<R: Threads + Wait + Sync, G: Gate + Sync>(
     ensures safe { IfOk result (λ a. (answered a).status ≡ 0 → HasNoErrorWord icfg.now) }
 {
     let race = race(rt, alloc, program, icfg, limits, gate)?;
-    let verdict = verdict_of(alloc, program, icfg, &race)?;
-    confirm(alloc, icfg, &verdict)?;
-    let text = summary(alloc, count, &verdict)?;
+    let Ok(verdict) = verdict_of(alloc, program, icfg, &race) else {
+        drop(race);
+        return Err(AllocError);
+    };
+    let Ok(text) = confirmed_summary(alloc, icfg, count, &verdict) else {
+        drop(verdict);
+        drop(race);
+        return Err(AllocError);
+    };
     // Contracts alone speak of these.
     let (_history, _kept, _room) = (race.history(), race.kept(), race.sized());
     Ok(Answer::Decided {
@@ -137,6 +160,12 @@ pub(crate) fn summed<R: Threads + Wait + Sync, G: Gate + Sync>(
     ensures safe { IfOk result (λ a. (answered a).status ≡ 0 → (t : TypedProgram) → resolved_program (generated count) (codes "main") ≡ Some t → IsSafe t) }
 {
     let program = program_of(alloc, count)?;
-    let icfg = graph_of(alloc, count, &program)?;
-    decided(rt, alloc, count, &program, &icfg, limits, gate)
+    let Ok(icfg) = graph_of(alloc, count, &program) else {
+        drop(program);
+        return Err(AllocError);
+    };
+    let answer = decided(rt, alloc, count, &program, &icfg, limits, gate);
+    drop(icfg);
+    drop(program);
+    answer
 }

@@ -1,6 +1,6 @@
 //! Procedures that are verified, checked and replayed each by itself, in their parts.
 
-ghost use Rattle.std.specs.Prelude.{true, ◌≡◌, ◌≢◌, ◌≤◌, ◌<◌, ◌+◌, ◌*◌, ◌^◌, ℕ, List, Option, length, map, Some, None, Err, IfOk, IfSome, MatchOption, MatchResult, option_map};
+ghost use Rattle.std.specs.Prelude.{true, ◌≡◌, ◌≢◌, ◌≤◌, ◌<◌, ◌+◌, ◌*◌, ◌^◌, ◌++◌, ◌∷◌, [], ℕ, List, Option, length, map, Some, None, Err, IfOk, IfSome, MatchOption, MatchResult, OnOk, option_map};
 ghost use Rattle.std.specs.List.{list_all};
 ghost use Rattle.outer_io.specs.Faults.{Rose};
 ghost use Rattle.outer_io.specs.Texts.{text_named};
@@ -12,10 +12,11 @@ ghost use Rattle.race_rounds.specs.Limits.{AreInRange};
 ghost use Rattle.lowered_graph.specs.Lowered.{lowered};
 ghost use Rattle.text_reports.specs.Answers.{answer_of, IsGraphOf, HasNoErrorWord, TextIsSafe};
 ghost use Rattle.automizer_top.specs.Ties.Answers.{answered};
-ghost use Rattle.automizer_top.specs.PartTexts.{front_lines, front_text, rest_text};
+ghost use Rattle.automizer_top.specs.PartTexts.{part_line, front_lines, front_text, rest_text};
 ghost use Rattle.automizer_top.specs.Ties.PartViews.{AreParts, RefusesFree, AreGraphsOf, HaveNoErrorWord, RefusesUnlowered, RefusesParts, IsLoweredText, JudgesPart, ChecksOn, FindsPart};
 ghost use Rattle.automizer_top.specs.Parts.{ReportsVerifyParts, ReportsParts, ReportsCheckParts, ReportsPartProofs, RejectsPart, ProvesPart, ReportsReplayParts, ReportsPartFailure};
 ghost use Rattle.text_reports.specs.ReportTexts.{accepted_answer};
+ghost use Rattle.automizer_top.specs.Verdicts.{verdict_status};
 ghost use Rattle.automizer_top.specs.Report.{ReportsSecond};
 
 use crate::answer::{Answer, verdict_status};
@@ -24,11 +25,14 @@ use crate::reporting::{Decision, raced};
 use crate::words::Options;
 use boogie_tree::Text;
 use boogie_types::Typed;
+use itp_automaton::Certified;
 use letter_acts::Icfg;
 use modular_cut::{CutFault, Part, cut};
 use outer_io::Shelf;
 use proof_form::{ProofFault, read_safe};
+use race_core::Shared;
 use race_rounds::Limits;
+use race_verdicts::Verdict;
 use race_workers::Gate;
 use std::alloc::{AllocError, Global};
 use std::sync::Wait;
@@ -91,14 +95,67 @@ fn lowered_text(
         Ok(program) => program,
         Err(answer) => return Ok(Err(Answer::OnText(answer))),
     };
-    let parts = match parts_of(alloc, &program)? {
+    let Ok(made) = parts_of(alloc, &program) else {
+        drop(program);
+        return Err(AllocError);
+    };
+    drop(program);
+    let parts = match made {
         Ok(parts) => parts,
         Err(answer) => return Ok(Err(answer)),
     };
-    match graphs_of(alloc, &parts)? {
+    let Ok(lowered) = graphs_of(alloc, &parts) else {
+        drop(parts);
+        return Err(AllocError);
+    };
+    match lowered {
         Ok(graphs) => Ok(Ok(LoweredParts { parts, graphs })),
-        Err(answer) => Ok(Err(Answer::OnText(answer))),
+        Err(answer) => {
+            drop(parts);
+            Ok(Err(Answer::OnText(answer)))
+        }
     }
+}
+
+/// Adds a race to others.
+fn add_race(races: &mut Vec<Shared<Certified>>, race: Shared<Certified>) -> Result<(), AllocError>
+    ensures { OnOk result (races.new.items ≡ races.old.items ++ race ∷ []) }
+{
+    races.push(race)?;
+    Ok(())
+}
+
+/// Adds the race of a verdict on the part of that name, and the text of the verdict, which stands alone where that is not `safe`.
+fn add_decision(
+    text: &mut Vec<u8>,
+    races: &mut Vec<Shared<Certified>>,
+    name: &Text,
+    decision: Decision,
+) -> Result<Verdict, AllocError>
+    ensures verdict { IfOk result (λ v. v ≡ decision.verdict) }
+    ensures safe { OnOk result (verdict_status decision.verdict ≡ 0 → text.new.items ≡ text.old.items ++ (part_line name.now ++ decision.text.items)) }
+    ensures alone { OnOk result (verdict_status decision.verdict ≢ 0 → text.new.items ≡ part_line name.now ++ decision.text.items) }
+    ensures race { OnOk result (races.new.items ≡ races.old.items ++ decision.race ∷ []) }
+{
+    let Decision {
+        text: own,
+        verdict,
+        race,
+    } = decision;
+    let Ok(()) = add_race(races, race) else {
+        drop(own);
+        drop(verdict);
+        return Err(AllocError);
+    };
+    if verdict_status(&verdict) != 0 {
+        text.clear();
+    }
+    let Ok(()) = add_part(text, name, &own) else {
+        drop(own);
+        drop(verdict);
+        return Err(AllocError);
+    };
+    Ok(verdict)
 }
 
 /// What is answered to parts with their graphs, where their verdicts are asked for: all texts, or that of the first part that is not safe.
@@ -119,11 +176,7 @@ fn decided<R: Threads + Wait + Sync, G: Gate + Sync>(
     let mut races = Vec::new(alloc);
     for number in 0..lowered.parts.len() {
         let part = &lowered.parts[number];
-        let Decision {
-            text: own,
-            verdict,
-            race,
-        } = raced(
+        let Ok(decision) = raced(
             rt,
             alloc,
             &part.program,
@@ -131,18 +184,24 @@ fn decided<R: Threads + Wait + Sync, G: Gate + Sync>(
             limits,
             None,
             gate,
-        )?;
-        races.push(race)?;
+        ) else {
+            drop(races);
+            drop(text);
+            return Err(AllocError);
+        };
+        let Ok(verdict) = add_decision(&mut text, &mut races, &part.name, decision) else {
+            drop(races);
+            drop(text);
+            return Err(AllocError);
+        };
         if verdict_status(&verdict) != 0 {
-            let mut text = Vec::new(alloc);
-            add_part(&mut text, &part.name, &own)?;
             return Ok(Answer::PartDecided {
                 text,
                 verdict,
                 races,
             });
         }
-        add_part(&mut text, &part.name, &own)?;
+        drop(verdict);
     }
     Ok(Answer::PartsDecided { text, races })
 }

@@ -58,8 +58,15 @@ pub(crate) fn raced<R: Threads + Wait + Sync, G: Gate + Sync>(
     ensures safe { IfOk result (λ d. verdict_status d.verdict ≡ 0 → HasNoErrorWord icfg.now) }
 {
     let race = race_from(rt, alloc, program, icfg, limits, first, gate)?;
-    let verdict = verdict_of(alloc, program, icfg, &race)?;
-    let text = verdict_text(alloc, race.version(), &verdict)?;
+    let Ok(verdict) = verdict_of(alloc, program, icfg, &race) else {
+        drop(race);
+        return Err(AllocError);
+    };
+    let Ok(text) = verdict_text(alloc, race.version(), &verdict) else {
+        drop(verdict);
+        drop(race);
+        return Err(AllocError);
+    };
     // Contracts alone speak of these.
     let (_graph, _history, _kept) = (icfg.nwa(), race.history(), race.kept());
     let _room = race.sized();
@@ -116,11 +123,21 @@ fn verified<R: Threads + Wait + Sync, G: Gate + Sync>(
         Ok(program) => program,
         Err(answer) => return Ok(Answer::OnText(answer)),
     };
-    let icfg = match graph(alloc, &program)? {
-        Ok(icfg) => icfg,
-        Err(answer) => return Ok(Answer::OnText(answer)),
+    let Ok(made) = graph(alloc, &program) else {
+        drop(program);
+        return Err(AllocError);
     };
-    decided(rt, alloc, &program, &icfg, options.limits, None, gate)
+    let icfg = match made {
+        Ok(icfg) => icfg,
+        Err(answer) => {
+            drop(program);
+            return Ok(Answer::OnText(answer));
+        }
+    };
+    let answer = decided(rt, alloc, &program, &icfg, options.limits, None, gate);
+    drop(icfg);
+    drop(program);
+    answer
 }
 
 /// What is answered to a program text whose verdict, or with the flag that of each of its parts, is asked for, and to an earlier annotation, where one

@@ -11,12 +11,12 @@ returns g c =
       coarse = c.in-Ok._coarse.items;
       old = c.in-Ok.old;
       spelled = text;
-      automaton = c.in_ok-reused.reused;
+      automaton = c.in-Ok-reuse.reused;
       reused = record {
-        certified = c.in_ok-reused.ensures.certified;
-        states = c.in_ok-reused.ensures.states;
-        candidates = c.in_ok-reused.ensures.candidates;
-        all = c.in_ok-reused.ensures.all;
+        certified = c.in-Ok-reuse.ensures.certified;
+        states = c.in-Ok-reuse.ensures.states;
+        candidates = c.in-Ok-reuse.ensures.candidates;
+        all = c.in-Ok-reuse.ensures.all;
       };
-      first_is = first_entry c.args.icfg.now c.in_ok-reused.reused c.in_ok-first.field-0 c.in_ok-first.ensures.entry (λ e. c.in_ok-first.ensures.none (ap Ok e));
+      first_is = first_entry c.args.icfg.now c.in-Ok-reuse.reused c.in_ok-first.field-0 c.in_ok-first.ensures.entry (λ e. c.in_ok-first.ensures.none (ap Ok e));
     }

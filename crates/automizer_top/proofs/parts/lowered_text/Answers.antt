@@ -16,25 +16,25 @@ returns-in-Err c =
 pub parts_of-requires : goal.parts_of-requires
 parts_of-requires c = record { names = rw c.in-Ok.is at c.in_ok-program.ensures.names }
 
-pub returns-in-Err-2 : goal.returns-in-Err-2
-returns-in-Err-2 c =
+pub returns-in-Err-made : goal.returns-in-Err-made
+returns-in-Err-made c =
     let t = typed_program c.in-Ok.program in
     let typed : IsTypedText c.args.entry.now c.args.text.now t = rw c.in-Ok.is at c.in_ok-program.ensures.typed in
-    let r : RefusesFree t (answered c.in-Err-2.answer) = rw c.in-Err-2.is at c.in_ok-parts.ensures in
-    cut_refused c.args.entry.now c.args.text.now t (answered c.in-Err-2.answer) typed r
+    let r : RefusesFree t (answered c.in-Err-made.answer) = rw c.in-Err-made.is at c.in-Ok-parts_of.ensures in
+    cut_refused c.args.entry.now c.args.text.now t (answered c.in-Err-made.answer) typed r
 
-pub returns-in-Ok-3 : goal.returns-in-Ok-3
-returns-in-Ok-3 c =
+pub returns-in-Ok-lowered : goal.returns-in-Ok-lowered
+returns-in-Ok-lowered c =
     let t = typed_program c.in-Ok.program in
     let typed : IsTypedText c.args.entry.now c.args.text.now t = rw c.in-Ok.is at c.in_ok-program.ensures.typed in
-    let parts : AreParts t c.in-Ok-2.parts.items = rw c.in-Ok-2.is at c.in_ok-parts.ensures in
-    let graphs : AreGraphsOf (map plain_part c.deref.result.now) c.in-Ok-3.graphs.items = rw c.in-Ok-3.is at c.in_ok-graphs.ensures in
+    let parts : AreParts t c.in-Ok-made.parts.items = rw c.in-Ok-made.is at c.in-Ok-parts_of.ensures in
+    let graphs : AreGraphsOf (map plain_part c.deref.result.now) c.in-Ok-lowered.graphs.items = rw c.in-Ok-lowered.is at c.in-Ok-graphs_of.ensures in
     (t, typed, parts, rw (← c.deref.ensures.value) graphs)
 
-pub returns : goal.returns
-returns c =
+pub returns-in-Err-lowered : goal.returns-in-Err-lowered
+returns-in-Err-lowered c =
     let t = typed_program c.in-Ok.program in
     let typed : IsTypedText c.args.entry.now c.args.text.now t = rw c.in-Ok.is at c.in_ok-program.ensures.typed in
-    let parts : AreParts t c.in-Ok-2.parts.items = rw c.in-Ok-2.is at c.in_ok-parts.ensures in
-    let r : RefusesUnlowered (map plain_part c.deref.result.now) (answer_of c.in-Err-3.answer) = rw c.in-Err-3.is at c.in_ok-graphs.ensures in
-    unlowered_refused c.args.entry.now c.args.text.now t c.in-Ok-2.parts.items (answer_of c.in-Err-3.answer) typed parts (rw (← c.deref.ensures.value) r)
+    let parts : AreParts t c.in-Ok-made.parts.items = rw c.in-Ok-made.is at c.in-Ok-parts_of.ensures in
+    let r : RefusesUnlowered (map plain_part c.deref.result.now) (answer_of c.in-Err-lowered.answer) = rw c.in-Err-lowered.is at c.in-Ok-graphs_of.ensures in
+    unlowered_refused c.args.entry.now c.args.text.now t c.in-Ok-made.parts.items (answer_of c.in-Err-lowered.answer) typed parts (rw (← c.deref.ensures.value) r)
