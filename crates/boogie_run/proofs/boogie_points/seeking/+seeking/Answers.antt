@@ -1,5 +1,5 @@
-use Rattle.std.proofs.Common.{◌∙◌, ◌+◌, ℕ, List, ap, sym, refl, map, length}
-use Rattle.std.proofs.lemmas.List.{length-map, take_rest}
+use Rattle.std.proofs.Common.{◌∙◌, ◌+◌, ◌∷◌, ℕ, List, ap, sym, refl, map, length, drop, arith}
+use Rattle.std.proofs.lemmas.List.{length-map, take_rest, drop_more}
 use Rattle.typed_tree.specs.declared.types.TInv.{TInv}
 use Rattle.typed_tree.specs.declared.types.TStmt.{TStmt}
 use Rattle.typed_tree.specs.TypedTree.{TypedBlock, TypedStatement, If, While, Then}
@@ -9,6 +9,7 @@ use Rattle.typed_tree.specs.TypedView as view
 use Rattle.boogie_run.specs.BoogiePoints.View.{stack_of}
 use Rattle.boogie_run.proofs.BoogiePoints.SeekLaws.{if_seen, while_seen, else_found, while_found, same_search}
 use Rattle.boogie_run.proofs.BoogiePoints.SearchSteps.{searched_on, searched_there, searched_all, branch_fits, head_fits}
+use Rattle.boogie_run.proofs.PastSteps.{asserted, placed}
 use Rattle.boogie_run.proofs.boogie_points.seeking.+seeking.Goals as goal
 
 pub seek_in-returns-else-branch : goal.seek_in-returns-else-branch
@@ -83,3 +84,35 @@ seek_in-loop_marks-inner-requires t c =
     ∙ ap (λ (is : List TInv). Then (While c.in-While.field-0 (view.guard c.in-While.field-1) (map view.invariant is) (view.statements c.in-While.body.items)) (view.statements c.args.rest.now)) (sym c.deref-in-While.ensures.value))
     (sym (length-map c.deref-in-While.result.now view.invariant)) c.requires.assertions c.requires.points in
     record { assertions = fits.0; points = fits.1 }
+
+pub seek-assertions-requires : goal.seek-assertions-requires
+seek-assertions-requires t c =
+    let e =
+    ap view.statements (drop_more c.args.block.now c.loop-number.number c.index-block-number.result c.loop-number-test.true
+    ∙ ap (λ (s : TStmt). s ∷ drop (c.loop-number.number + 1) c.args.block.now) (sym c.index-block-number.is)) in
+    let h = asserted (map view.procedure c.args.procs.now) (view.statement c.index-block-number.result) (view.statements (drop (c.loop-number.number + 1) c.args.block.now)) _ c.loop-number.here.id e c.loop-number.invariant.assertions in
+    omega (arith, h)
+
+pub seek-points-requires : goal.seek-points-requires
+seek-points-requires t c =
+    let e =
+    ap view.statements (drop_more c.args.block.now c.loop-number.number c.index-block-number.result c.loop-number-test.true
+    ∙ ap (λ (s : TStmt). s ∷ drop (c.loop-number.number + 1) c.args.block.now) (sym c.index-block-number.is)) in
+    let k = placed (map view.procedure c.args.procs.now) (view.statement c.index-block-number.result) (view.statements (drop (c.loop-number.number + 1) c.args.block.now)) _ c.loop-number.here.at e c.loop-number.invariant.points in
+    omega (arith, k)
+
+pub seek-overflow_add-here : goal.seek-overflow_add-here
+seek-overflow_add-here t c =
+    let e =
+    ap view.statements (drop_more c.args.block.now c.loop-number.number c.index-block-number.result c.loop-number-test.true
+    ∙ ap (λ (s : TStmt). s ∷ drop (c.loop-number.number + 1) c.args.block.now) (sym c.index-block-number.is)) in
+    let h = asserted (map view.procedure c.args.procs.now) (view.statement c.index-block-number.result) (view.statements (drop (c.loop-number.number + 1) c.args.block.now)) _ c.loop-number.here.id e c.loop-number.invariant.assertions in
+    omega (arith, h, c.assertions.ensures)
+
+pub seek-overflow_add-here-in-loop-number : goal.seek-overflow_add-here-in-loop-number
+seek-overflow_add-here-in-loop-number t c =
+    let e =
+    ap view.statements (drop_more c.args.block.now c.loop-number.number c.index-block-number.result c.loop-number-test.true
+    ∙ ap (λ (s : TStmt). s ∷ drop (c.loop-number.number + 1) c.args.block.now) (sym c.index-block-number.is)) in
+    let k = placed (map view.procedure c.args.procs.now) (view.statement c.index-block-number.result) (view.statements (drop (c.loop-number.number + 1) c.args.block.now)) _ c.loop-number.here.at e c.loop-number.invariant.points in
+    omega (arith, k, c.points.ensures)
