@@ -249,13 +249,13 @@ impl<'a> Lines<'a> {
         let (Some(times), Ok(from)) = (times, u32::try_from(place)) else {
             return Err(Stop::Nothing);
         };
-        let sum = sum_of(alloc, row, times, zero)?;
         self.users.add_columns(number, zero)?;
         self.steps.push(Step {
             to: number,
             from,
             times,
         })?;
+        let sum = sum_of(alloc, row, times, zero)?;
         let is_refuted = is_false(&sum);
         self.put(number, sum)?;
         Ok(is_refuted)
