@@ -125,7 +125,7 @@ impl<'a> Picker<'a> {
     /// Shows that a whole value is nearest 0, by one row; 0 by none. False where no row shows it.
     fn show_at_once(&mut self, column: Col, k: i128) -> Result<bool, Stop> {
         if k == 0 {
-            self.show(Vec::new(self.alloc))?;
+            self.shown.push(Vec::new(self.alloc))?;
             return Ok(true);
         }
         if k > 0 {
@@ -150,17 +150,11 @@ impl<'a> Picker<'a> {
     fn show_side(&mut self, column: Col, way: Way, k: i128) -> Result<bool, Stop> {
         match self.side_shown(column, way, k)? {
             Some(parts) => {
-                self.show(parts)?;
+                self.shown.push(parts)?;
                 Ok(true)
             }
             None => Ok(false),
         }
-    }
-
-    /// Keeps what shows the next value, or the next side of one.
-    fn show(&mut self, parts: Parts) -> Result<(), Stop> {
-        self.shown.push(parts)?;
-        Ok(())
     }
 
     /// The parts that refute that the column is at most k, or at least k + 1, by one row whose last column it is.
@@ -256,10 +250,10 @@ impl<'a> Picker<'a> {
         self.tableau.fix(0)?;
         self.tableau.aim(column)?;
         let Some(parts) = self.tableau.reach(column, self.pivots)? else {
-            self.show(Vec::new(self.alloc))?;
+            self.shown.push(Vec::new(self.alloc))?;
             return self.reached(column, true);
         };
-        self.show(parts)?;
+        self.shown.push(parts)?;
         self.seek_whole(column)
     }
 
