@@ -1,11 +1,12 @@
 -- Lists that are read member by member, the first place of a number in one, and operations by their kind.
-use Rattle.std.proofs.Common.{◌≡◌, ℕ, zero, suc, ◌+◌, ◌<◌, ◌≤◌, Bool, true, false, nat_eq, Option, None, Some, if◌then◌else◌, List, [], ◌∷◌, ◌++◌, map, length, get_or, take, drop, drop-cons, pos, ◌⊎◌, inl, inr, refl, sym, ◌∙◌, ap, subst, arith, rules}
+use Rattle.std.proofs.Common.{◌≡◌, ℕ, suc, ◌+◌, ◌<◌, ◌≤◌, Bool, true, false, nat_eq, Option, None, Some, if◌then◌else◌, List, [], ◌∷◌, ◌++◌, map, length, get_or, take, drop, drop-cons, append-nil, pos, ◌⊎◌, inl, inr, refl, sym, ◌∙◌, ap, subst, arith, rules}
 use Rattle.boogie_tree.specs.declared.span.Span.{Span}
 use Rattle.boogie_tree.specs.declared.tree.Op.{Op}
 use Rattle.boogie_tree.specs.declared.tree.Op.TheVariants.{Add, Sub, Mul}
 use Rattle.typed_tree.specs.TypedTree.{TypedExpression, Lit, Bin}
 use Rattle.cond_jumps.proofs.MovingLemmas.{map_append}
 use Rattle.icfg_lower.specs.CallJumps.Ties.Reading.{constant_operation}
+use Rattle.letter_acts.specs.Frames.{Columns, olds_from}
 use Rattle.lowered_graph.specs.LoweredSteps.Edges.{found_from}
 use Rattle.icfg_lower.proofs.AutomatonParts.{drop_past}
 use Rattle.icfg_lower.proofs.PlaceEdges.LeadLemmas.{one_more}
@@ -51,3 +52,9 @@ found_behind i xs n o l e h =
 
 pub found_nowhere : (i : ℕ) (xs : List ℕ) (n : ℕ) (o : Option ℕ) → length xs ≤ i → found_from i (drop i xs) n ≡ o → None ≡ o
 found_nowhere i xs n o l h = sym (ap (λ (ys : List ℕ). found_from i ys n) (drop_past xs i l)) ∙ h
+
+-- ---- the old columns of a frame
+
+pub all_old : (xs ys : Columns) (i : ℕ) (old all : List (ℕ × ℕ)) → ys ≡ xs → length ys ≤ i → old ++ olds_from i (drop i xs) ≡ all → old ≡ all
+all_old xs ys i old all v l h =
+    sym (append-nil old) ∙ (λ j. old ++ olds_from i (sym (drop_past xs i (subst (λ (zs : Columns). length zs ≤ i) v l)) j)) ∙ h

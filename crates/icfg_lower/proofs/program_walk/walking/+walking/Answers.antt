@@ -1,4 +1,4 @@
-use Rattle.std.proofs.Common.{◌≡◌, ◌∙◌, ◌+◌, ℕ, List, refl, sym, ap, subst, map, drop}
+use Rattle.std.proofs.Common.{◌≡◌, ◌∙◌, ◌+◌, ℕ, List, sym, ap, subst, map, drop}
 use Rattle.std.specs.Prelude.{OnOk}
 use Rattle.typed_tree.specs.declared.types.TInv.{TInv}
 use Rattle.typed_tree.specs.declared.types.TStmt.{TStmt}
