@@ -6,21 +6,25 @@
   .ci/edits.py try --changed BASE     those of the crates that differ from the commit BASE
   .ci/edits.py try --all              those of all crates
 
-A try takes what `rt ci` has kept on this machine of the crates below, proves each crate once more, and ends with a line for each edit and a table.
-Its status is 0 where each edit was refused.
+A try proves each crate once more, and first all that it stands on, one crate after another: hours where nothing is proved yet. The copy stays in
+the folder `automizer/edits` of the user's cache, so a later try proves only what has changed. It ends with a line for each edit and a table; its
+status is 0 where each edit was refused.
 """
 import collections
+import fcntl
 import glob
 import os
 import re
 import shutil
 import subprocess
 import sys
-import tempfile
 
 TOP = os.path.dirname(os.path.dirname(os.path.abspath(__file__)))
 
-# What `rt ci` says of an edit, and how the table calls it.
+# Not below the checkout, where `rt ci` would take the crates of the copy for the checkout's.
+ROOM = os.path.join(os.environ.get("XDG_CACHE_HOME") or os.path.expanduser("~/.cache"), "automizer", "edits")
+
+# What `rt must-fail` says of an edit, and how the table calls it.
 ENDS = {
     "refused, as it must be (only": "barely",
     "refused, as it must be": "refused",
@@ -76,9 +80,16 @@ def changed(base):
     return sorted({path.split("/")[1] for path in said.split()} & set(crates()))
 
 
-def copy_with_edits(names, copy):
-    """Clones what is committed, where these crates alone have edits, and all of theirs."""
-    subprocess.run(["git", "clone", "-q", TOP, copy], check=True)
+def bring(copy):
+    """Makes the copy what is committed; what was proved in it stays."""
+    if not os.path.isdir(f"{copy}/.git"):
+        subprocess.run(["git", "clone", "-q", "--no-checkout", TOP, copy], check=True)
+    for words in [["fetch", "-q", TOP, "HEAD"], ["checkout", "-q", "--force", "--detach", "FETCH_HEAD"], ["clean", "-q", "--force", "-d"]]:
+        subprocess.run(["git", *words], cwd=copy, check=True)
+
+
+def give_edits(names, copy):
+    """Has these crates alone have edits in the copy, and all of theirs, and tells how many each has."""
     for folder in glob.glob(f"{copy}/crates/*/must-fail"):
         if os.path.basename(os.path.dirname(folder)) not in names:
             shutil.rmtree(folder)
@@ -92,10 +103,14 @@ def copy_with_edits(names, copy):
 
 def try_all(names):
     found = collections.defaultdict(collections.Counter)
-    with tempfile.TemporaryDirectory(prefix="edits-") as room:
-        count = copy_with_edits(names, f"{room}/copy")
-        how = {"cwd": f"{room}/copy", "stdout": subprocess.PIPE, "text": True, "errors": "replace"}
-        with subprocess.Popen(["rt", "ci", *names], **how) as run:
+    os.makedirs(ROOM, exist_ok=True)
+    with open(f"{ROOM}/lock", "w", encoding="utf-8") as lock:
+        fcntl.flock(lock, fcntl.LOCK_EX)
+        copy = f"{ROOM}/copy"
+        bring(copy)
+        count = give_edits(names, copy)
+        how = {"cwd": copy, "stdout": subprocess.PIPE, "text": True, "errors": "replace"}
+        with subprocess.Popen(["rt", "must-fail", *names], **how) as run:
             for line in run.stdout:
                 told = re.search(r"must-fail (\w+)/[\w.-]+: (.*)", line)
                 end = told and next((it for it in ENDS if told[2].startswith(it)), None)
