@@ -2,8 +2,8 @@
 """Times calls of the library crates at doubled sizes, in one run, and prints the ratios: library.py [NAME..]
 
 Each program of bench/programs is a program over the crates that its first line names, and its second line has the words of its
-cases, with the sizes. It is proved and built by the toolchain as every program is, in a copy of the crates, and then run with each size.
-What is written of its proof stands in NAME_proofs.txt, each file behind a line `-- file NAME`.
+cases, with the sizes. It is built without proofs, optimised, as ./automizer builds its program at its first use, in a copy of the crates,
+which takes a minute or several, and then run with each size.
 A size is doubled three times; the time of the smallest size of all, an empty piece of work, is taken away."""
 import os
 import pathlib
@@ -14,34 +14,29 @@ import tempfile
 import time
 
 TOP = pathlib.Path(__file__).resolve().parent.parent
+sys.path.insert(0, str(TOP / "tools"))
+
+import unproved
 
 
 def build(work: pathlib.Path, name: str, needs: str) -> str:
     """Builds the program in a copy of the crates."""
-    crate = work / "crates" / f"bench_{name}"
+    crate, room = work / "crates" / f"bench_{name}", work / f"building_{name}"
     (crate / "src").mkdir(parents=True)
+    room.mkdir()
     shutil.copy(TOP / "bench" / "programs" / f"{name}.txt", crate / "src" / "main.rt")
-    (crate / "args").write_text("none\n0\n")
-    proofs = TOP / "bench" / "programs" / f"{name}_proofs.txt"
-    if proofs.exists():
-        write_proofs(crate, proofs.read_text())
     with open(work / "crates.txt", "a", encoding="utf-8") as crates:
         crates.write(f"bench_{name}: {needs}\n")
-    print(f"proving and building the program {name}, which takes minutes", file=sys.stderr, flush=True)
-    built = subprocess.run(["rt", "run"], cwd=crate, capture_output=True, text=True)
-    program = crate / "out" / f"bench_{name}"
-    if not program.exists():
-        sys.exit(f"{name} was not built:\n{built.stdout[-3000:]}{built.stderr[-3000:]}")
-    return str(program)
-
-
-def write_proofs(crate: pathlib.Path, text: str) -> None:
-    """Writes the files of a proof, each of which stands behind a line with its name."""
-    for part in text.split("-- file ")[1:]:
-        file, _, lines = part.partition("\n")
-        path = crate / "proofs" / file
-        path.parent.mkdir(parents=True, exist_ok=True)
-        path.write_text(lines.strip() + "\n")
+    print(f"building the program {name}, which takes minutes", file=sys.stderr, flush=True)
+    life = unproved.Life(name)
+    try:
+        unproved.make_module(str(crate), str(room), life)
+        unproved.link(str(room), life)
+    except unproved.Failed as failed:
+        sys.exit(f"{name} was not built: {failed}")
+    finally:
+        life.end()
+    return str(room / "program")
 
 
 def timed(program: str, case: str, size: int) -> tuple[float, str]:
@@ -57,7 +52,7 @@ def timed(program: str, case: str, size: int) -> tuple[float, str]:
 
 
 def main() -> None:
-    names = sys.argv[1:] or sorted(path.stem for path in (TOP / "bench" / "programs").glob("*.txt") if not path.stem.endswith("_proofs"))
+    names = sys.argv[1:] or sorted(path.stem for path in (TOP / "bench" / "programs").glob("*.txt"))
     with tempfile.TemporaryDirectory() as folder:
         work = pathlib.Path(folder)
         shutil.copytree(TOP / "crates", work / "crates", ignore=shutil.ignore_patterns("out"))
