@@ -78,10 +78,10 @@ fn add_ensures(sites: &mut Vec<Site>, proc: usize, specs: &[TSpec]) -> Result<()
 }
 
 /// Where an axiom stands: where its expression does.
-fn axiom_site(proc: usize, axiom: &TExpr) -> Site
-    ensures { result ≡ spec.axiom_site proc (view.expression axiom.now) }
+fn axiom_site(proc: usize, expression: &TExpr) -> Site
+    ensures { result ≡ spec.axiom_site proc (view.expression expression.now) }
 {
-    (proc, Some(axiom.span))
+    (proc, Some(expression.span))
 }
 
 /// Adds axioms.

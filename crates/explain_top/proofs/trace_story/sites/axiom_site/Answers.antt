@@ -5,4 +5,4 @@ use Rattle.explain_top.proofs.TraceStory.SiteSteps.{span_seen}
 use Rattle.explain_top.proofs.trace_story.sites.axiom_site.Goals as goal
 
 pub returns : goal.returns
-returns c = ap (λ (s : Span). here c.args.proc s) (span_seen c.args.axiom.now.span c.args.axiom.now.kind)
+returns c = ap (λ (s : Span). here c.args.proc s) (span_seen c.args.expression.now.span c.args.expression.now.kind)
